@@ -1,0 +1,15 @@
+use mathlib.Core.Path.{_≡_, refl, _∙_}
+use borrow.Author.Needs.{needs}
+use Rattle.bytes.specs.Number.{octets}
+use Rattle.bytes.proofs.Numbers.{reads, put-placed}
+use Rattle.bytes.proofs.number.write_u64.Needs as need
+
+pub returns : need.returns
+unfolding octets
+returns c =
+    let t = c .args .text .now in
+    let at = c .args .at in
+    let n = c .args .value in
+    let made : c .to-be-bytes .result ≡ octets 8 n = search needs in
+    let bytes = put-placed at 8 t (c .copy-from-slice .last .self) (octets 8 n) (c .copy-from-slice .ensures .after ∙ made) refl in
+    record { bytes = bytes; reads = reads 8 t _ at n (c .pre) (c .fits .value .fits) bytes }

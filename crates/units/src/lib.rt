@@ -1,0 +1,3 @@
+pub mod field;
+pub mod limit;
+pub mod side;
