@@ -59,14 +59,16 @@ quarter-back q xs ys at e f =
     let la = length-octets 4 (q .minimum) in
     let lb = length-octets 4 (q .maximum) in
     same-quarter _ _ _ _ _ _
-      (ap (λ x. number 4 x at) (first xs a b c ys) ∙ field-back 4 (q .minimum) xs ((b ++ c) ++ ys) at e (omega arith))
-      (ap (λ x. number 4 x (at + 4)) (second xs a b c ys) ∙ field-back 4 (q .maximum) (xs ++ a) (c ++ ys) (at + 4) (omega (arith, length-append xs a)) most)
-      (ap (λ x. signedNumber 4 x (at + 8)) (third xs a b c ys) ∙ signed-field-back 4 (q .price) (xs ++ (a ++ b)) ys (at + 8) (omega (arith, length-append xs (a ++ b), length-append a b)) (price-holds (q .price) (price .0)))
+    (ap (λ x. number 4 x at) (first xs a b c ys) ∙ field-back 4 (q .minimum) xs ((b ++ c) ++ ys) at e (omega arith))
+    (ap (λ x. number 4 x (at + 4)) (second xs a b c ys) ∙ field-back 4 (q .maximum) (xs ++ a) (c ++ ys) (at + 4) (omega (arith, length-append xs a)) most)
+    (ap (λ x. signedNumber 4 x (at + 8)) (third xs a b c ys) ∙ signed-field-back 4 (q .price) (xs ++ (a ++ b)) ys (at + 8) (omega (arith, length-append xs (a ++ b), length-append a b)) (price-holds (q .price) (price .0)))
   where
     first : (xs a b c ys : List ℕ) → xs ++ ((a ++ (b ++ c)) ++ ys) ≡ xs ++ (a ++ ((b ++ c) ++ ys))
     first xs a b c ys = simp append-assoc
+
     second : (xs a b c ys : List ℕ) → xs ++ ((a ++ (b ++ c)) ++ ys) ≡ (xs ++ a) ++ (b ++ (c ++ ys))
     second xs a b c ys = simp append-assoc
+
     third : (xs a b c ys : List ℕ) → xs ++ ((a ++ (b ++ c)) ++ ys) ≡ (xs ++ (a ++ b)) ++ (c ++ ys)
     third xs a b c ys = simp append-assoc
 
@@ -81,6 +83,7 @@ quarter-forth t at o h =
   where
     eight : (n : ℕ) → n + 4 + 4 ≡ n + 8
     eight n = omega arith
+
     thirds : (t : List ℕ) (at : ℕ) → take 12 (drop at t) ≡ take 4 (drop at t) ++ (take 4 (drop (at + 4) t) ++ take 4 (drop (at + 8) t))
     thirds t at = take-next 4 8 t at ∙ ap (λ x. take 4 (drop at t) ++ x) (take-next 4 4 t (at + 4) ∙ ap (λ (n : ℕ). take 4 (drop (at + 4) t) ++ take 4 (drop n t)) (eight at))
 
@@ -105,12 +108,12 @@ bid-back row f t l e =
     let u = (h ++ (q 0 ++ (q 1 ++ (q 2 ++ q 3)))) ++ t in
     let n = λ (i : ℕ). length-quarter (bidQuarter qs i) in
     let z : quartersAt u ≡ qs =
-          same-four _ _ _ _ (bidQuarter qs 0) (bidQuarter qs 1) (bidQuarter qs 2) (bidQuarter qs 3)
-            (ap (λ x. quarterAt x 2) (cut-0 h (q 0) (q 1) (q 2) (q 3) t) ∙ quarter-back (bidQuarter qs 0) h (q 1 ++ (q 2 ++ (q 3 ++ t))) 2 refl (fine .0))
-            (ap (λ x. quarterAt x 14) (cut-1 h (q 0) (q 1) (q 2) (q 3) t) ∙ quarter-back (bidQuarter qs 1) (h ++ q 0) (q 2 ++ (q 3 ++ t)) 14 (omega (arith, n 0)) (fine .1))
-            (ap (λ x. quarterAt x 26) (cut-2 h (q 0) (q 1) (q 2) (q 3) t) ∙ quarter-back (bidQuarter qs 2) (h ++ (q 0 ++ q 1)) (q 3 ++ t) 26 (omega (arith, length-append (q 0) (q 1), n 0, n 1)) (fine .2))
-            (ap (λ x. quarterAt x 38) (cut-3 h (q 0) (q 1) (q 2) (q 3) t) ∙ quarter-back (bidQuarter qs 3) (h ++ (q 0 ++ (q 1 ++ q 2))) t 38 (omega (arith, length-append (q 0) (q 1 ++ q 2), length-append (q 1) (q 2), n 0, n 1, n 2)) (fine .3))
-          ∙ four-list (record { minimum = 0; maximum = 0; price = pos 0 }) qs l in
+    same-four _ _ _ _ (bidQuarter qs 0) (bidQuarter qs 1) (bidQuarter qs 2) (bidQuarter qs 3)
+    (ap (λ x. quarterAt x 2) (cut-0 h (q 0) (q 1) (q 2) (q 3) t) ∙ quarter-back (bidQuarter qs 0) h (q 1 ++ (q 2 ++ (q 3 ++ t))) 2 refl (fine .0))
+    (ap (λ x. quarterAt x 14) (cut-1 h (q 0) (q 1) (q 2) (q 3) t) ∙ quarter-back (bidQuarter qs 1) (h ++ q 0) (q 2 ++ (q 3 ++ t)) 14 (omega (arith, n 0)) (fine .1))
+    (ap (λ x. quarterAt x 26) (cut-2 h (q 0) (q 1) (q 2) (q 3) t) ∙ quarter-back (bidQuarter qs 2) (h ++ (q 0 ++ q 1)) (q 3 ++ t) 26 (omega (arith, length-append (q 0) (q 1), n 0, n 1)) (fine .2))
+    (ap (λ x. quarterAt x 38) (cut-3 h (q 0) (q 1) (q 2) (q 3) t) ∙ quarter-back (bidQuarter qs 3) (h ++ (q 0 ++ (q 1 ++ q 2))) t 38 (omega (arith, length-append (q 0) (q 1 ++ q 2), length-append (q 1) (q 2), n 0, n 1, n 2)) (fine .3))
+    ∙ four-list (record { minimum = 0; maximum = 0; price = pos 0 }) qs l in
     rw (side-back (f .side)) (rw z e)
 
 -- what a text that was read tells of its bytes

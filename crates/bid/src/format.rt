@@ -7,9 +7,9 @@ ghost use Rattle.units.specs.Field.{toldField};
 ghost use Rattle.bid.specs.Fields.{bidJudged};
 ghost use Rattle.bid.specs.Format.{quarterAt, quartersAt, quarterBytes, bidBytes, bidRead};
 ghost use Rattle.bid.specs.Lawful.{fieldsIn};
-use crate::fields::bid_fine;
 use crate::fields::BidFields;
 use crate::fields::BidQuarter;
+use crate::fields::bid_fine;
 use crate::lawful::Bid;
 use bytes::number::read_i32;
 use bytes::number::read_u32;
@@ -38,7 +38,12 @@ fn quarters(text: &[u8]) -> [BidQuarter; 4]
     requires { ⌜ 50 ≤ length (now text) ⌝ }
     ensures { λ r. ⌜ r ≡ quartersAt (now (text .entry)) ⌝ }
 {
-    [quarter(text, 2), quarter(text, 14), quarter(text, 26), quarter(text, 38)]
+    [
+        quarter(text, 2),
+        quarter(text, 14),
+        quarter(text, 26),
+        quarter(text, 38),
+    ]
 }
 
 fn write_quarter(text: &mut [u8], at: usize, q: &BidQuarter)
@@ -78,7 +83,11 @@ impl Bid {
     {
         match text {
             [area, side, ..] => match Side::of(*side) {
-                Some(side) => Bid::of(BidFields { area: *area, side, quarters: quarters(text) }),
+                Some(side) => Bid::of(BidFields {
+                    area: *area,
+                    side,
+                    quarters: quarters(text),
+                }),
                 None => Err(FieldFault::unreadable(is_area(*area))),
             },
             _ => unreachable(),

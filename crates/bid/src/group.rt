@@ -5,6 +5,7 @@ ghost use Rattle.bid.specs.Group.{groupFine, sameArea};
 
 // The fewest and the most members of an exclusive group.
 pub const FEWEST_MEMBERS: u8 = 2;
+
 pub const MOST_MEMBERS: u8 = 8;
 
 // May an exclusive group have so many members?

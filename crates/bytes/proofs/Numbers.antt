@@ -78,6 +78,7 @@ octets-read (suc k) t at o h =
   where
     one-more : (n : ℕ) → suc n ≡ n + 1
     one-more n = omega arith
+
     same : (b : ℕ) → b < 256 → (b + 0) % 256 ≡ b
     same b h = omega arith
 
@@ -104,7 +105,6 @@ pub signed-back : (k : ℕ) (z : ℤ) → Holds k z → signed k (twos k z) ≡ 
 unfolding signed twos
 signed-back k (pos n) h = rw (lt-ltb n (256 ^ k / 2) h)
 signed-back k (negsuc n) h = rw (le-ltb (256 ^ k - suc n) (256 ^ k / 2) (omega arith)) (ap negsuc (turned (256 ^ k) n h))
-
   where
     turned : (p n : ℕ) → n < p / 2 → p - suc (p - suc n) ≡ n
     turned p n h = omega arith

@@ -34,8 +34,16 @@ impl ByteFault {
         ensures { λ r. ⌜ r ≡ toldByte (now (self .entry)) ⌝ }
     {
         match self {
-            ByteFault::Cut(place) => Told { number: 11, layer: Layer::Bytes, place: *place },
-            ByteFault::Unknown(place) => Told { number: 12, layer: Layer::Bytes, place: *place },
+            ByteFault::Cut(place) => Told {
+                number: 11,
+                layer: Layer::Bytes,
+                place: *place,
+            },
+            ByteFault::Unknown(place) => Told {
+                number: 12,
+                layer: Layer::Bytes,
+                place: *place,
+            },
         }
     }
 }

@@ -44,7 +44,16 @@ pub fn read_u64(text: &[u8], at: usize) -> u64
     ensures value { λ r. ⌜ r ≡ number 8 (now (text .entry)) at ⌝ }
     ensures stood { λ r. ⌜ placed (now (text .entry)) at (octets 8 r) ≡ now (text .entry) ⌝ }
 {
-    u64::from_be_bytes([text[at], text[at + 1], text[at + 2], text[at + 3], text[at + 4], text[at + 5], text[at + 6], text[at + 7]])
+    u64::from_be_bytes([
+        text[at],
+        text[at + 1],
+        text[at + 2],
+        text[at + 3],
+        text[at + 4],
+        text[at + 5],
+        text[at + 6],
+        text[at + 7],
+    ])
 }
 
 pub fn read_i8(text: &[u8], at: usize) -> i8

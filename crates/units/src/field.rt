@@ -20,13 +20,21 @@ impl FieldFault {
             FieldFault::Area => 23,
             FieldFault::Rule => 24,
         };
-        Told { number, layer: Layer::Book, place: row }
+        Told {
+            number,
+            layer: Layer::Book,
+            place: row,
+        }
     }
 
     // The fault of fields that hold a byte which names nothing: its area, if that is none, comes first.
     pub fn unreadable(lawful_areas: bool) -> FieldFault
         ensures { λ r. ⌜ ((row : ℕ) → toldField row r ≡ unreadable row «lawful_areas») ⌝ }
     {
-        if lawful_areas { FieldFault::Rule } else { FieldFault::Area }
+        if lawful_areas {
+            FieldFault::Rule
+        } else {
+            FieldFault::Area
+        }
     }
 }

@@ -20,6 +20,6 @@ returns c =
     let q = c .args .q .now in
     let f : SFits w32 (q .price) = search needs in
     placed-three t (c .write-u32 .last .text) (c .write-u32-2 .last .text) (c .write-i32 .last .text) a (a + 4) (a + 8) (octets 4 (q .minimum)) (octets 4 (q .maximum)) (signedOctets 4 (q .price))
-      (omega arith) (c .write-u32 .ensures .bytes) (omega (arith, length-octets 4 (q .minimum)))
-      (c .write-u32-2 .ensures .bytes) (omega (arith, length-octets 4 (q .maximum)))
-      (c .write-i32 .ensures .bytes ∙ ap (λ (z : ℤ). placed (c .write-u32-2 .last .text) (a + 8) (signedOctets 4 z)) (toZ-ofZ w32 (q .price) f))
+    (omega arith) (c .write-u32 .ensures .bytes) (omega (arith, length-octets 4 (q .minimum)))
+    (c .write-u32-2 .ensures .bytes) (omega (arith, length-octets 4 (q .maximum)))
+    (c .write-i32 .ensures .bytes ∙ ap (λ (z : ℤ). placed (c .write-u32-2 .last .text) (a + 8) (signedOctets 4 z)) (toZ-ofZ w32 (q .price) f))

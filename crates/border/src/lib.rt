@@ -1,0 +1,4 @@
+pub mod fields;
+pub mod format;
+pub mod lawful;
+pub mod step;

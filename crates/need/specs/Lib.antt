@@ -1,0 +1,4 @@
+pub mod Elasticity
+pub mod Fields
+pub mod Format
+pub mod Lawful

@@ -1,0 +1,4 @@
+pub mod elasticity;
+pub mod fields;
+pub mod format;
+pub mod lawful;
