@@ -1,0 +1,4 @@
+pub mod Lawful
+pub mod Admit
+pub mod Calls
+pub mod Holding

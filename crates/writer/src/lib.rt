@@ -1,0 +1,5 @@
+pub mod admit;
+pub mod lawful;
+pub mod open;
+pub mod state;
+pub mod underway;
