@@ -2,3 +2,4 @@ pub mod fields;
 pub mod format;
 pub mod group;
 pub mod lawful;
+pub mod size;

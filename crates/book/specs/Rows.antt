@@ -1,7 +1,6 @@
 -- The rows of a book: their commands' bytes, and the rules of their fields.
 use mathlib.Core.Path.{_≡_}
 use mathlib.Core.List.{List, [], _∷_, _++_}
-use mathlib.Core.Bool.{Bool, true}
 use Prim.Native.Nat.{ℕ}
 use lib.ListN.{length, getD, drop}
 use Rattle.std.specs.declared.option.Option.{Option}
@@ -9,10 +8,9 @@ use Rattle.std.specs.declared.option.Option.the-variants.{Some, None}
 use Rattle.std.specs.declared.result.Result.{Result}
 use Rattle.std.specs.declared.result.Result.the-variants.{Ok, Err}
 use Rattle.bytes.specs.declared.fault.Told.{Told}
-use Rattle.units.specs.Field.{judged}
 use Rattle.bid.specs.Fields.{bidJudged}
 use Rattle.bid.specs.Format.{bidBytes, bidRead}
-use Rattle.bid.specs.Group.{groupFine}
+use Rattle.bid.specs.Group.{groupJudged}
 use Rattle.need.specs.Fields.{needJudged}
 use Rattle.need.specs.Format.{needBytes, needRead}
 use Rattle.border.specs.Fields.{borderJudged}
@@ -56,9 +54,9 @@ abbrev pub rowed : {X : Type 0} → (X → Row) → Result X Told → Result (Op
 rowed f (Ok x) = Ok (Some (f x))
 rowed f (Err e) = Err e
 
--- a group of so many members: a group has no area of its own
+-- a group of so many members
 abbrev pub groupRead : ℕ → ℕ → Result (Option Row) Told
-groupRead row n = rowed kind.Group (judged row true (groupFine n) n)
+groupRead row n = rowed kind.Group (groupJudged row n)
 
 -- the row of a command at the front of t, or what its fields tell; the seal is none
 unfoldable pub rowRead : Command → ℕ → List ℕ → Result (Option Row) Told

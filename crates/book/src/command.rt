@@ -11,8 +11,8 @@ ghost use Rattle.book.specs.Rows.{rowed, groupRead, rowRead};
 ghost use Rattle.book.specs.declared.row.Row.the-variants as kind;
 use crate::fault::BookFault;
 use crate::row::Row;
-use bid::group::group_fine;
 use bid::lawful::Bid;
+use bid::size::GroupSize;
 use border::lawful::Border;
 use bytes::fault::ByteFault;
 use need::lawful::Need;
@@ -96,10 +96,9 @@ fn bid_row(operands: &[u8], row: usize) -> Result<Option<Row>, BookFault>
 fn group_row(members: u8, row: usize) -> Result<Option<Row>, BookFault>
     ensures { λ r. ⌜ heard toldBook r ≡ groupRead row members ⌝ }
 {
-    if group_fine(members) {
-        Ok(Some(Row::Group(members)))
-    } else {
-        Err(BookFault::Field(row))
+    match GroupSize::of(members) {
+        Ok(size) => Ok(Some(Row::Group(size.members()))),
+        Err(fault) => Err(BookFault::in_row(fault, row)),
     }
 }
 

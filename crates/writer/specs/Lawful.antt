@@ -11,7 +11,7 @@ use Rattle.writer.specs.declared.lawful.LawfulRow.the-variants as lawful
 
 abbrev pub rowOf : LawfulRow → Row
 rowOf (lawful.Bid b) = kind.Bid (b .fields)
-rowOf (lawful.Group n) = kind.Group n
+rowOf (lawful.Group g) = kind.Group (g .members)
 rowOf (lawful.Need n) = kind.Need (n .fields)
 rowOf (lawful.Border b) = kind.Border (b .fields)
 

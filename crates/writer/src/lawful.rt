@@ -6,8 +6,8 @@ ghost use Rattle.bytes.specs.Number.{placed};
 ghost use Rattle.book.specs.Fault.{toldBook};
 ghost use Rattle.book.specs.Rows.{rowSize, rowBytes, rowJudged};
 ghost use Rattle.writer.specs.Lawful.{rowOf, rowIn};
-use bid::group::group_fine;
 use bid::lawful::Bid;
+use bid::size::GroupSize;
 use book::command::BID;
 use book::command::BORDER;
 use book::command::GROUP;
@@ -22,7 +22,7 @@ use need::lawful::Need;
 #[derive(Clone, Copy)]
 pub enum LawfulRow {
     Bid(Bid),
-    Group(u8),
+    Group(GroupSize),
     Need(Need),
     Border(Border),
 }
@@ -37,13 +37,10 @@ impl LawfulRow {
                 Ok(bid) => Ok(LawfulRow::Bid(bid)),
                 Err(fault) => Err(BookFault::in_row(fault, number)),
             },
-            Row::Group(members) => {
-                if group_fine(members) {
-                    Ok(LawfulRow::Group(members))
-                } else {
-                    Err(BookFault::Field(number))
-                }
-            }
+            Row::Group(members) => match GroupSize::of(members) {
+                Ok(size) => Ok(LawfulRow::Group(size)),
+                Err(fault) => Err(BookFault::in_row(fault, number)),
+            },
             Row::Need(fields) => match Need::of(fields) {
                 Ok(need) => Ok(LawfulRow::Need(need)),
                 Err(fault) => Err(BookFault::in_row(fault, number)),
@@ -65,7 +62,7 @@ impl LawfulRow {
                 write_bytes(text, at, &[BID]);
                 bid.write(text, at + 1);
             }
-            LawfulRow::Group(members) => write_bytes(text, at, &[GROUP, *members]),
+            LawfulRow::Group(size) => write_bytes(text, at, &[GROUP, size.members()]),
             LawfulRow::Need(need) => {
                 write_bytes(text, at, &[NEED]);
                 need.write(text, at + 1);
