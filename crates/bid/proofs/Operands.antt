@@ -15,7 +15,8 @@ use Rattle.std.proofs.shelf.Tests.{and-parts}
 use Rattle.bytes.specs.Fault.{fault}
 use Rattle.bytes.specs.Number.{number, octets, signedNumber, signedOctets, twos, Octets}
 use Rattle.bytes.proofs.Numbers.{length-octets, octets-read}
-use Rattle.bytes.proofs.Parts.{field-back, signed-field-back, signed-octets-read, take-next, take-five, cut-0, cut-1, cut-2, cut-3, four-list, same-four}
+use Rattle.bytes.proofs.Parts.{field-back, signed-field-back, signed-octets-read, take-next, head-two}
+use Rattle.bytes.proofs.Fours.{Part, length-fours, fours-back, fours-forth}
 use Rattle.units.specs.declared.side.Side.{Side}
 use Rattle.units.specs.Side.{sideOf, sideByte}
 use Rattle.units.specs.Limit.{isArea, isQuantity, isPrice}
@@ -33,13 +34,6 @@ length-quarter q =
     let y = octets 4 (q .maximum) in
     let z = signedOctets 4 (q .price) in
     omega (arith, length-append x (y ++ z), length-append y z, length-octets 4 (q .minimum), length-octets 4 (q .maximum), length-octets 4 (twos 4 (q .price)))
-
-pub length-bid : (f : BidFields) → length (bidBytes f) ≡ 50
-unfolding bidBytes
-length-bid f =
-    let q = λ (k : ℕ). quarterBytes (bidQuarter (f .quarters) k) in
-    let l = λ (k : ℕ). length-quarter (bidQuarter (f .quarters) k) in
-    omega (arith, length-append (q 0) (q 1 ++ (q 2 ++ q 3)), length-append (q 1) (q 2 ++ q 3), length-append (q 2) (q 3), l 0, l 1, l 2, l 3)
 
 same-quarter : (a b c d : ℕ) (p q : ℤ) → a ≡ b → c ≡ d → p ≡ q → _≡_ {A = BidQuarter} (record { minimum = a; maximum = c; price = p }) (record { minimum = b; maximum = d; price = q })
 same-quarter a b c d p q e f g = cc
@@ -96,24 +90,20 @@ fine-quarters qs e =
     let d = and-parts (quarterFine (bidQuarter qs 3)) (bidOffers qs) (c .1) in
     (a .0, b .0, c .0, d .0)
 
+part : Part 12 quarterBytes quarterAt (λ q. quarterFine q ≡ true)
+part = record { size = length-quarter; back = quarter-back; forth = quarter-forth }
+
+pub length-bid : (f : BidFields) → length (bidBytes f) ≡ 50
+unfolding bidBytes
+length-bid f = length-fours part (f .area ∷ sideByte (f .side) ∷ []) (bidQuarter (f .quarters) 0) (bidQuarter (f .quarters) 1) (bidQuarter (f .quarters) 2) (bidQuarter (f .quarters) 3)
+
 -- lawful fields that were written are read again, whatever stands behind them
 pub bid-back : (row : ℕ) (f : BidFields) (t : List ℕ) → length (f .quarters) ≡ 4 → bidJudged row f ≡ Ok f → bidRead row (bidBytes f ++ t) ≡ Ok f
 unfolding bidRead bidBytes
 bid-back row f t l e =
     let k = judged-ok row (isArea (f .area)) (bidFine (f .quarters)) f f e in
-    let qs = f .quarters in
-    let fine = fine-quarters qs (k .fine) in
-    let q = λ (i : ℕ). quarterBytes (bidQuarter qs i) in
-    let h = f .area ∷ sideByte (f .side) ∷ [] in
-    let u = (h ++ (q 0 ++ (q 1 ++ (q 2 ++ q 3)))) ++ t in
-    let n = λ (i : ℕ). length-quarter (bidQuarter qs i) in
-    let z : quartersAt u ≡ qs =
-    same-four _ _ _ _ (bidQuarter qs 0) (bidQuarter qs 1) (bidQuarter qs 2) (bidQuarter qs 3)
-    (ap (λ x. quarterAt x 2) (cut-0 h (q 0) (q 1) (q 2) (q 3) t) ∙ quarter-back (bidQuarter qs 0) h (q 1 ++ (q 2 ++ (q 3 ++ t))) 2 refl (fine .0))
-    (ap (λ x. quarterAt x 14) (cut-1 h (q 0) (q 1) (q 2) (q 3) t) ∙ quarter-back (bidQuarter qs 1) (h ++ q 0) (q 2 ++ (q 3 ++ t)) 14 (omega (arith, n 0)) (fine .1))
-    (ap (λ x. quarterAt x 26) (cut-2 h (q 0) (q 1) (q 2) (q 3) t) ∙ quarter-back (bidQuarter qs 2) (h ++ (q 0 ++ q 1)) (q 3 ++ t) 26 (omega (arith, length-append (q 0) (q 1), n 0, n 1)) (fine .2))
-    (ap (λ x. quarterAt x 38) (cut-3 h (q 0) (q 1) (q 2) (q 3) t) ∙ quarter-back (bidQuarter qs 3) (h ++ (q 0 ++ (q 1 ++ q 2))) t 38 (omega (arith, length-append (q 0) (q 1 ++ q 2), length-append (q 1) (q 2), n 0, n 1, n 2)) (fine .3))
-    ∙ four-list (record { minimum = 0; maximum = 0; price = pos 0 }) qs l in
+    let fine = fine-quarters (f .quarters) (k .fine) in
+    let z = fours-back part (f .area ∷ sideByte (f .side) ∷ []) t 2 refl (record { minimum = 0; maximum = 0; price = pos 0 }) (f .quarters) l (fine .0) (fine .1) (fine .2) (fine .3) in
     rw (side-back (f .side)) (rw z e)
 
 -- what a text that was read tells of its bytes
@@ -122,28 +112,16 @@ pub record BidStood (row : ℕ) (t : List ℕ) (f : BidFields) : Type 0 where
   pub four : length (f .quarters) ≡ 4
   pub bytes : bidBytes f ≡ take 50 t
 
-head-two : (t : List ℕ) → 2 ≤ length t → getD t 0 0 ∷ getD t 1 0 ∷ [] ≡ take 2 t
-head-two [] h = absurd (omega arith)
-head-two (x ∷ []) h = absurd (omega arith)
-head-two (x ∷ y ∷ t) h = refl
-
-stood-at : (row : ℕ) (t : List ℕ) (s : Side) → Octets t → 50 ≤ length t → sideByte s ≡ getD t 1 0 → bidBytes (record { area = getD t 0 0; side = s; quarters = quartersAt t }) ≡ take 50 t
+stood-at : (t : List ℕ) (s : Side) → Octets t → 50 ≤ length t → sideByte s ≡ getD t 1 0 → bidBytes (record { area = getD t 0 0; side = s; quarters = quartersAt t }) ≡ take 50 t
 unfolding bidBytes
-stood-at row t s o h e =
-    ap (λ (x : ℕ). (getD t 0 0 ∷ x ∷ []) ++ (quarterBytes (quarterAt t 2) ++ (quarterBytes (quarterAt t 14) ++ (quarterBytes (quarterAt t 26) ++ quarterBytes (quarterAt t 38))))) e
-    ∙ ap (λ x. x ++ (quarterBytes (quarterAt t 2) ++ (quarterBytes (quarterAt t 14) ++ (quarterBytes (quarterAt t 26) ++ quarterBytes (quarterAt t 38))))) (head-two t (omega arith))
-    ∙ ap (λ x. take 2 t ++ (x ++ (quarterBytes (quarterAt t 14) ++ (quarterBytes (quarterAt t 26) ++ quarterBytes (quarterAt t 38))))) (quarter-forth t 2 o (omega arith))
-    ∙ ap (λ x. take 2 t ++ (take 12 (drop 2 t) ++ (x ++ (quarterBytes (quarterAt t 26) ++ quarterBytes (quarterAt t 38))))) (quarter-forth t 14 o (omega arith))
-    ∙ ap (λ x. take 2 t ++ (take 12 (drop 2 t) ++ (take 12 (drop 14 t) ++ (x ++ quarterBytes (quarterAt t 38))))) (quarter-forth t 26 o (omega arith))
-    ∙ ap (λ x. take 2 t ++ (take 12 (drop 2 t) ++ (take 12 (drop 14 t) ++ (take 12 (drop 26 t) ++ x)))) (quarter-forth t 38 o (omega arith))
-    ∙ sym (take-five 2 12 t)
+stood-at t s o h e = fours-forth part t (getD t 0 0 ∷ sideByte s ∷ []) 2 o h (ap (λ (x : ℕ). getD t 0 0 ∷ x ∷ []) e ∙ head-two t (omega arith))
 
 sided-stood : (row : ℕ) (t : List ℕ) (f : BidFields) (x : Option Side) → sideOf (getD t 1 0) ≡ x → Octets t → 50 ≤ length t → bidSided row t x ≡ Ok f → BidStood row t f
 sided-stood row t f None d o h e = no-err (unreadable row (isArea (getD t 0 0))) f e
 sided-stood row t f (Some s) d o h e =
     let g : BidFields = record { area = getD t 0 0; side = s; quarters = quartersAt t } in
     let k = judged-ok row (isArea (g .area)) (bidFine (g .quarters)) g f e in
-    subst (λ (x : BidFields). BidStood row t x) (k .same) (record { lawful = e ∙ ap Ok (sym (k .same)); four = refl; bytes = stood-at row t s o h (side-forth (getD t 1 0) s d) })
+    subst (λ (x : BidFields). BidStood row t x) (k .same) (record { lawful = e ∙ ap Ok (sym (k .same)); four = refl; bytes = stood-at t s o h (side-forth (getD t 1 0) s d) })
 
 pub bid-forth : (row : ℕ) (t : List ℕ) (f : BidFields) → Octets t → 50 ≤ length t → bidRead row t ≡ Ok f → BidStood row t f
 unfolding bidRead

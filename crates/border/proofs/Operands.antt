@@ -13,7 +13,8 @@ use Rattle.std.specs.declared.result.Result.the-variants.{Ok, Err}
 use Rattle.std.proofs.shelf.Tests.{and-parts}
 use Rattle.bytes.specs.Number.{number, octets, Octets}
 use Rattle.bytes.proofs.Numbers.{length-octets, octets-read}
-use Rattle.bytes.proofs.Parts.{field-back, take-next, take-five, cut-0, cut-1, cut-2, cut-3, four-list, same-four}
+use Rattle.bytes.proofs.Parts.{field-back, take-next, head-three}
+use Rattle.bytes.proofs.Fours.{Part, length-fours, fours-back, fours-forth}
 use Rattle.units.specs.Limit.{isQuantity}
 use Rattle.units.specs.Field.{unreadable}
 use Rattle.units.proofs.Judged.{judged-ok, no-err, no-some, quantity-small}
@@ -45,13 +46,6 @@ length-quarter q =
     let x = octets 4 (q .forward) in
     let y = octets 4 (q .back) in
     omega (arith, length-append x y, length-octets 4 (q .forward), length-octets 4 (q .back))
-
-pub length-border : (f : BorderFields) → length (borderBytes f) ≡ 35
-unfolding borderBytes
-length-border f =
-    let q = λ (k : ℕ). borderQuarterBytes (borderQuarter (f .quarters) k) in
-    let l = λ (k : ℕ). length-quarter (borderQuarter (f .quarters) k) in
-    omega (arith, length-append (q 0) (q 1 ++ (q 2 ++ q 3)), length-append (q 1) (q 2 ++ q 3), length-append (q 2) (q 3), l 0, l 1, l 2, l 3)
 
 same-quarter : (a b c d : ℕ) → a ≡ b → c ≡ d → _≡_ {A = BorderQuarter} (record { forward = a; back = c }) (record { forward = b; back = d })
 same-quarter a b c d e f = cc
@@ -90,24 +84,20 @@ fine-quarters qs e =
     let c = and-parts (borderQuarterFine (borderQuarter qs 2)) (borderQuarterFine (borderQuarter qs 3)) (b .1) in
     (a .0, b .0, c .0, c .1)
 
+part : Part 8 borderQuarterBytes borderQuarterAt (λ q. borderQuarterFine q ≡ true)
+part = record { size = length-quarter; back = quarter-back; forth = quarter-forth }
+
+pub length-border : (f : BorderFields) → length (borderBytes f) ≡ 35
+unfolding borderBytes
+length-border f = length-fours part (f .from ∷ f .to ∷ stepByte (f .step) ∷ []) (borderQuarter (f .quarters) 0) (borderQuarter (f .quarters) 1) (borderQuarter (f .quarters) 2) (borderQuarter (f .quarters) 3)
+
 -- lawful fields that were written are read again, whatever stands behind them
 pub border-back : (row : ℕ) (f : BorderFields) (t : List ℕ) → length (f .quarters) ≡ 4 → borderJudged row f ≡ Ok f → borderRead row (borderBytes f ++ t) ≡ Ok f
 unfolding borderRead borderBytes
 border-back row f t l e =
     let k = judged-ok row (borderPlaced (f .from) (f .to)) (borderFine (f .quarters)) f f e in
-    let qs = f .quarters in
-    let fine = fine-quarters qs (k .fine) in
-    let q = λ (i : ℕ). borderQuarterBytes (borderQuarter qs i) in
-    let h = f .from ∷ f .to ∷ stepByte (f .step) ∷ [] in
-    let u = (h ++ (q 0 ++ (q 1 ++ (q 2 ++ q 3)))) ++ t in
-    let n = λ (i : ℕ). length-quarter (borderQuarter qs i) in
-    let z : borderQuartersAt u ≡ qs =
-    same-four _ _ _ _ (borderQuarter qs 0) (borderQuarter qs 1) (borderQuarter qs 2) (borderQuarter qs 3)
-    (ap (λ x. borderQuarterAt x 3) (cut-0 h (q 0) (q 1) (q 2) (q 3) t) ∙ quarter-back (borderQuarter qs 0) h (q 1 ++ (q 2 ++ (q 3 ++ t))) 3 refl (fine .0))
-    (ap (λ x. borderQuarterAt x 11) (cut-1 h (q 0) (q 1) (q 2) (q 3) t) ∙ quarter-back (borderQuarter qs 1) (h ++ q 0) (q 2 ++ (q 3 ++ t)) 11 (omega (arith, n 0)) (fine .1))
-    (ap (λ x. borderQuarterAt x 19) (cut-2 h (q 0) (q 1) (q 2) (q 3) t) ∙ quarter-back (borderQuarter qs 2) (h ++ (q 0 ++ q 1)) (q 3 ++ t) 19 (omega (arith, length-append (q 0) (q 1), n 0, n 1)) (fine .2))
-    (ap (λ x. borderQuarterAt x 27) (cut-3 h (q 0) (q 1) (q 2) (q 3) t) ∙ quarter-back (borderQuarter qs 3) (h ++ (q 0 ++ (q 1 ++ q 2))) t 27 (omega (arith, length-append (q 0) (q 1 ++ q 2), length-append (q 1) (q 2), n 0, n 1, n 2)) (fine .3))
-    ∙ four-list (record { forward = 0; back = 0 }) qs l in
+    let fine = fine-quarters (f .quarters) (k .fine) in
+    let z = fours-back part (f .from ∷ f .to ∷ stepByte (f .step) ∷ []) t 3 refl (record { forward = 0; back = 0 }) (f .quarters) l (fine .0) (fine .1) (fine .2) (fine .3) in
     rw (step-back (f .step)) (rw z e)
 
 -- what a text that was read tells of its bytes
@@ -116,23 +106,11 @@ pub record BorderStood (row : ℕ) (t : List ℕ) (f : BorderFields) : Type 0 wh
   pub four : length (f .quarters) ≡ 4
   pub bytes : borderBytes f ≡ take 35 t
 
-head-three : (t : List ℕ) → 3 ≤ length t → getD t 0 0 ∷ getD t 1 0 ∷ getD t 2 0 ∷ [] ≡ take 3 t
-head-three [] h = absurd (omega arith)
-head-three (x ∷ []) h = absurd (omega arith)
-head-three (x ∷ y ∷ []) h = absurd (omega arith)
-head-three (x ∷ y ∷ z ∷ t) h = refl
-
 stood-at : (t : List ℕ) (s : Step) → Octets t → 35 ≤ length t → stepByte s ≡ getD t 2 0 → borderBytes (record { from = getD t 0 0; to = getD t 1 0; step = s; quarters = borderQuartersAt t }) ≡ take 35 t
 unfolding borderBytes
 stood-at t s o h e =
-    let q = λ (i : ℕ). borderQuarterBytes (borderQuarterAt t i) in
-    ap (λ (x : ℕ). (getD t 0 0 ∷ getD t 1 0 ∷ x ∷ []) ++ (q 3 ++ (q 11 ++ (q 19 ++ q 27)))) e
-    ∙ ap (λ x. x ++ (q 3 ++ (q 11 ++ (q 19 ++ q 27)))) (head-three t (omega arith))
-    ∙ ap (λ x. take 3 t ++ (x ++ (q 11 ++ (q 19 ++ q 27)))) (quarter-forth t 3 o (omega arith))
-    ∙ ap (λ x. take 3 t ++ (take 8 (drop 3 t) ++ (x ++ (q 19 ++ q 27)))) (quarter-forth t 11 o (omega arith))
-    ∙ ap (λ x. take 3 t ++ (take 8 (drop 3 t) ++ (take 8 (drop 11 t) ++ (x ++ q 27)))) (quarter-forth t 19 o (omega arith))
-    ∙ ap (λ x. take 3 t ++ (take 8 (drop 3 t) ++ (take 8 (drop 11 t) ++ (take 8 (drop 19 t) ++ x)))) (quarter-forth t 27 o (omega arith))
-    ∙ sym (take-five 3 8 t)
+    fours-forth part t (getD t 0 0 ∷ getD t 1 0 ∷ stepByte s ∷ []) 3 o h
+    (ap (λ (x : ℕ). getD t 0 0 ∷ getD t 1 0 ∷ x ∷ []) e ∙ head-three t (omega arith))
 
 stepped-stood : (row : ℕ) (t : List ℕ) (f : BorderFields) (x : Option Step) → stepFor (getD t 2 0) ≡ x → Octets t → 35 ≤ length t → borderStepped row t x ≡ Ok f → BorderStood row t f
 stepped-stood row t f None d o h e = no-err (unreadable row (borderPlaced (getD t 0 0) (getD t 1 0))) f e

@@ -1,3 +1,4 @@
 pub mod Numbers
 pub mod Placed
 pub mod Parts
+pub mod Fours

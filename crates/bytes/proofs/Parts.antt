@@ -45,27 +45,12 @@ take-five h k t =
     ∙ ap (λ x. take k (drop (h + k) t) ++ x) (ap (take (k + k)) (drop-drop k (h + k) t) ∙ take-both k k (drop (h + k + k) t)
     ∙ ap (λ x. take k (drop (h + k + k) t) ++ take k x) (drop-drop k (h + k + k) t))))
 
--- the same bytes, cut before each of the four parts
-pub cut-0 : (h a b c d t : List ℕ) → (h ++ (a ++ (b ++ (c ++ d)))) ++ t ≡ h ++ (a ++ (b ++ (c ++ (d ++ t))))
-cut-0 h a b c d t = simp append-assoc
+-- the first bytes of a text, one by one
+pub head-two : (t : List ℕ) → 2 ≤ length t → getD t 0 0 ∷ getD t 1 0 ∷ [] ≡ take 2 t
+head-two [] h = absurd (omega arith)
+head-two (x ∷ []) h = absurd (omega arith)
+head-two (x ∷ y ∷ t) h = refl
 
-pub cut-1 : (h a b c d t : List ℕ) → (h ++ (a ++ (b ++ (c ++ d)))) ++ t ≡ (h ++ a) ++ (b ++ (c ++ (d ++ t)))
-cut-1 h a b c d t = simp append-assoc
-
-pub cut-2 : (h a b c d t : List ℕ) → (h ++ (a ++ (b ++ (c ++ d)))) ++ t ≡ (h ++ (a ++ b)) ++ (c ++ (d ++ t))
-cut-2 h a b c d t = simp append-assoc
-
-pub cut-3 : (h a b c d t : List ℕ) → (h ++ (a ++ (b ++ (c ++ d)))) ++ t ≡ (h ++ (a ++ (b ++ c))) ++ (d ++ t)
-cut-3 h a b c d t = simp append-assoc
-
--- four elements are the list of them
-pub four-list : {X : Type 0} (d : X) (xs : List X) → length xs ≡ 4 → getD xs 0 d ∷ getD xs 1 d ∷ getD xs 2 d ∷ getD xs 3 d ∷ [] ≡ xs
-four-list d [] e = absurd (omega arith)
-four-list d (x ∷ []) e = absurd (omega arith)
-four-list d (x ∷ y ∷ []) e = absurd (omega arith)
-four-list d (x ∷ y ∷ z ∷ []) e = absurd (omega arith)
-four-list d (x ∷ y ∷ z ∷ w ∷ []) e = refl
-four-list d (x ∷ y ∷ z ∷ w ∷ v ∷ xs) e = absurd (omega arith)
-
-pub same-four : {X : Type 0} (a b c d p q r s : X) → a ≡ p → b ≡ q → c ≡ r → d ≡ s → a ∷ b ∷ c ∷ d ∷ [] ≡ p ∷ q ∷ r ∷ s ∷ []
-same-four a b c d p q r s e f g h = cc
+pub head-three : (t : List ℕ) → 3 ≤ length t → getD t 0 0 ∷ getD t 1 0 ∷ getD t 2 0 ∷ [] ≡ take 3 t
+head-three [] h = absurd (omega arith)
+head-three (x ∷ t) h = ap (λ xs. x ∷ xs) (head-two t (omega arith))

@@ -12,7 +12,8 @@ use Rattle.std.specs.declared.result.Result.the-variants.{Ok, Err}
 use Rattle.std.proofs.shelf.Tests.{and-parts}
 use Rattle.bytes.specs.Number.{number, octets, signedNumber, signedOctets, twos, Octets}
 use Rattle.bytes.proofs.Numbers.{length-octets, octets-read}
-use Rattle.bytes.proofs.Parts.{field-back, signed-field-back, signed-octets-read, take-next, take-five, cut-0, cut-1, cut-2, cut-3, four-list, same-four}
+use Rattle.bytes.proofs.Parts.{field-back, signed-field-back, signed-octets-read, take-next, head-three}
+use Rattle.bytes.proofs.Fours.{Part, length-fours, fours-back, fours-forth}
 use Rattle.units.specs.declared.side.Side.{Side}
 use Rattle.units.specs.Side.{sideOf, sideByte}
 use Rattle.units.specs.Limit.{isArea, isQuantity, isPrice}
@@ -41,13 +42,6 @@ length-quarter q =
     let x = octets 4 (q .maximum) in
     let y = signedOctets 4 (q .price) in
     omega (arith, length-append x y, length-octets 4 (q .maximum), length-octets 4 (twos 4 (q .price)))
-
-pub length-need : (f : NeedFields) → length (needBytes f) ≡ 35
-unfolding needBytes
-length-need f =
-    let q = λ (k : ℕ). needQuarterBytes (needQuarter (f .quarters) k) in
-    let l = λ (k : ℕ). length-quarter (needQuarter (f .quarters) k) in
-    omega (arith, length-append (q 0) (q 1 ++ (q 2 ++ q 3)), length-append (q 1) (q 2 ++ q 3), length-append (q 2) (q 3), l 0, l 1, l 2, l 3)
 
 same-quarter : (a b : ℕ) (p q : ℤ) → a ≡ b → p ≡ q → _≡_ {A = NeedQuarter} (record { maximum = a; price = p }) (record { maximum = b; price = q })
 same-quarter a b p q e f = cc
@@ -88,26 +82,22 @@ fine-quarters e qs p =
     let d = and-parts (needQuarterFine e (needQuarter qs 3)) (needOffers qs) (c .1) in
     (a .0, b .0, c .0, d .0)
 
+part : (e : Elasticity) → Part 8 needQuarterBytes needQuarterAt (λ q. needQuarterFine e q ≡ true)
+part e = record { size = length-quarter; back = quarter-back e; forth = quarter-forth }
+
+pub length-need : (f : NeedFields) → length (needBytes f) ≡ 35
+unfolding needBytes
+length-need f = length-fours (part (f .elasticity)) (f .area ∷ sideByte (f .side) ∷ elasticityByte (f .elasticity) ∷ []) (needQuarter (f .quarters) 0) (needQuarter (f .quarters) 1) (needQuarter (f .quarters) 2) (needQuarter (f .quarters) 3)
+
 -- lawful fields that were written are read again, whatever stands behind them
 pub need-back : (row : ℕ) (f : NeedFields) (t : List ℕ) → length (f .quarters) ≡ 4 → needJudged row f ≡ Ok f → needRead row (needBytes f ++ t) ≡ Ok f
 unfolding needRead needBytes
 need-back row f t l e =
     let y = f .elasticity in
     let k = judged-ok row (isArea (f .area)) (needFine y (f .quarters)) f f e in
-    let qs = f .quarters in
-    let fine = fine-quarters y qs (k .fine) in
-    let q = λ (i : ℕ). needQuarterBytes (needQuarter qs i) in
-    let h = f .area ∷ sideByte (f .side) ∷ elasticityByte y ∷ [] in
-    let u = (h ++ (q 0 ++ (q 1 ++ (q 2 ++ q 3)))) ++ t in
-    let n = λ (i : ℕ). length-quarter (needQuarter qs i) in
-    let z : needQuartersAt u ≡ qs =
-    same-four _ _ _ _ (needQuarter qs 0) (needQuarter qs 1) (needQuarter qs 2) (needQuarter qs 3)
-    (ap (λ x. needQuarterAt x 3) (cut-0 h (q 0) (q 1) (q 2) (q 3) t) ∙ quarter-back y (needQuarter qs 0) h (q 1 ++ (q 2 ++ (q 3 ++ t))) 3 refl (fine .0))
-    (ap (λ x. needQuarterAt x 11) (cut-1 h (q 0) (q 1) (q 2) (q 3) t) ∙ quarter-back y (needQuarter qs 1) (h ++ q 0) (q 2 ++ (q 3 ++ t)) 11 (omega (arith, n 0)) (fine .1))
-    (ap (λ x. needQuarterAt x 19) (cut-2 h (q 0) (q 1) (q 2) (q 3) t) ∙ quarter-back y (needQuarter qs 2) (h ++ (q 0 ++ q 1)) (q 3 ++ t) 19 (omega (arith, length-append (q 0) (q 1), n 0, n 1)) (fine .2))
-    (ap (λ x. needQuarterAt x 27) (cut-3 h (q 0) (q 1) (q 2) (q 3) t) ∙ quarter-back y (needQuarter qs 3) (h ++ (q 0 ++ (q 1 ++ q 2))) t 27 (omega (arith, length-append (q 0) (q 1 ++ q 2), length-append (q 1) (q 2), n 0, n 1, n 2)) (fine .3))
-    ∙ four-list (record { maximum = 0; price = pos 0 }) qs l in
-    rw (side-back (f .side)) (rw (elasticity-back (f .elasticity)) (rw z e))
+    let fine = fine-quarters y (f .quarters) (k .fine) in
+    let z = fours-back (part y) (f .area ∷ sideByte (f .side) ∷ elasticityByte y ∷ []) t 3 refl (record { maximum = 0; price = pos 0 }) (f .quarters) l (fine .0) (fine .1) (fine .2) (fine .3) in
+    rw (side-back (f .side)) (rw (elasticity-back y) (rw z e))
 
 -- what a text that was read tells of its bytes
 pub record NeedStood (row : ℕ) (t : List ℕ) (f : NeedFields) : Type 0 where
@@ -115,24 +105,11 @@ pub record NeedStood (row : ℕ) (t : List ℕ) (f : NeedFields) : Type 0 where
   pub four : length (f .quarters) ≡ 4
   pub bytes : needBytes f ≡ take 35 t
 
-head-three : (t : List ℕ) → 3 ≤ length t → getD t 0 0 ∷ getD t 1 0 ∷ getD t 2 0 ∷ [] ≡ take 3 t
-head-three [] h = absurd (omega arith)
-head-three (x ∷ []) h = absurd (omega arith)
-head-three (x ∷ y ∷ []) h = absurd (omega arith)
-head-three (x ∷ y ∷ z ∷ t) h = refl
-
 stood-at : (t : List ℕ) (s : Side) (y : Elasticity) → Octets t → 35 ≤ length t → sideByte s ≡ getD t 1 0 → elasticityByte y ≡ getD t 2 0 → needBytes (record { area = getD t 0 0; side = s; elasticity = y; quarters = needQuartersAt t }) ≡ take 35 t
 unfolding needBytes
 stood-at t s y o h e g =
-    let q = λ (i : ℕ). needQuarterBytes (needQuarterAt t i) in
-    ap (λ (x : ℕ). (getD t 0 0 ∷ x ∷ elasticityByte y ∷ []) ++ (q 3 ++ (q 11 ++ (q 19 ++ q 27)))) e
-    ∙ ap (λ (x : ℕ). (getD t 0 0 ∷ getD t 1 0 ∷ x ∷ []) ++ (q 3 ++ (q 11 ++ (q 19 ++ q 27)))) g
-    ∙ ap (λ x. x ++ (q 3 ++ (q 11 ++ (q 19 ++ q 27)))) (head-three t (omega arith))
-    ∙ ap (λ x. take 3 t ++ (x ++ (q 11 ++ (q 19 ++ q 27)))) (quarter-forth t 3 o (omega arith))
-    ∙ ap (λ x. take 3 t ++ (take 8 (drop 3 t) ++ (x ++ (q 19 ++ q 27)))) (quarter-forth t 11 o (omega arith))
-    ∙ ap (λ x. take 3 t ++ (take 8 (drop 3 t) ++ (take 8 (drop 11 t) ++ (x ++ q 27)))) (quarter-forth t 19 o (omega arith))
-    ∙ ap (λ x. take 3 t ++ (take 8 (drop 3 t) ++ (take 8 (drop 11 t) ++ (take 8 (drop 19 t) ++ x)))) (quarter-forth t 27 o (omega arith))
-    ∙ sym (take-five 3 8 t)
+    fours-forth (part y) t (getD t 0 0 ∷ sideByte s ∷ elasticityByte y ∷ []) 3 o h
+    (ap (λ (x : ℕ). getD t 0 0 ∷ x ∷ elasticityByte y ∷ []) e ∙ ap (λ (x : ℕ). getD t 0 0 ∷ getD t 1 0 ∷ x ∷ []) g ∙ head-three t (omega arith))
 
 named-stood : (row : ℕ) (t : List ℕ) (f : NeedFields) (x : Option Side) (y : Option Elasticity) → sideOf (getD t 1 0) ≡ x → elasticityOf (getD t 2 0) ≡ y → Octets t → 35 ≤ length t → needNamed row t x y ≡ Ok f → NeedStood row t f
 named-stood row t f None y d g o h e = no-err (unreadable row (isArea (getD t 0 0))) f e
