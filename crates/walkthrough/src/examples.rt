@@ -1,11 +1,14 @@
 ghost use mathlib.Core.Path.{_≡_};
-ghost use mathlib.Core.List.{[], _∷_};
+ghost use mathlib.Core.List.{List, [], _∷_, _++_};
 ghost use Rattle.std.specs.Vec.{made};
 ghost use Rattle.std.specs.declared.result.Result.the-variants.{Ok};
 ghost use Rattle.book.specs.declared.row.Row.the-variants as kind;
 ghost use Rattle.book.specs.Reading.{checked, rowsIn};
+ghost use Rattle.writer.specs.Holding.{Holds};
 use bid::fields::BidFields;
 use bid::fields::BidQuarter;
+use book::fault::BookFault;
+use book::row::Row;
 use border::fields::BorderFields;
 use border::fields::BorderQuarter;
 use border::step::Step;
@@ -14,25 +17,24 @@ use need::fields::NeedFields;
 use need::fields::NeedQuarter;
 use units::side::Side;
 use writer::state::Begun;
-use writer::state::GroupUnderway;
 use writer::state::Joined;
 use writer::state::Membership;
 use writer::state::OpenBook;
 use writer::state::Refused;
 
-pub const NO_BID: BidQuarter = BidQuarter {
+pub(crate) const NO_BID: BidQuarter = BidQuarter {
     minimum: 0,
     maximum: 0,
     price: 0,
 };
 
-pub const NO_NEED: NeedQuarter = NeedQuarter {
+pub(crate) const NO_NEED: NeedQuarter = NeedQuarter {
     maximum: 0,
     price: 0,
 };
 
 // An upward bid in area 1, quarter 2: up to 50 MW at 30 euro.
-pub fn small_bid() -> BidFields {
+pub(crate) fn small_bid() -> BidFields {
     let offered = BidQuarter {
         minimum: 0,
         maximum: 500,
@@ -46,7 +48,7 @@ pub fn small_bid() -> BidFields {
 }
 
 // An elastic upward need there: up to 40 MW at 80 euro.
-pub fn small_need() -> NeedFields {
+pub(crate) fn small_need() -> NeedFields {
     let wanted = NeedQuarter {
         maximum: 400,
         price: 8_000,
@@ -60,7 +62,7 @@ pub fn small_need() -> NeedFields {
 }
 
 // A downward bid in an area: 10 to 25.5 MW in the first two quarters, below zero in the second.
-pub fn block_bid(area: u8) -> BidFields {
+pub(crate) fn block_bid(area: u8) -> BidFields {
     let first = BidQuarter {
         minimum: 100,
         maximum: 255,
@@ -78,7 +80,7 @@ pub fn block_bid(area: u8) -> BidFields {
     }
 }
 
-pub fn firm_need() -> NeedFields {
+pub(crate) fn firm_need() -> NeedFields {
     let wanted = NeedQuarter {
         maximum: 1_200,
         price: 0,
@@ -91,7 +93,7 @@ pub fn firm_need() -> NeedFields {
     }
 }
 
-pub fn wide_border() -> BorderFields {
+pub(crate) fn wide_border() -> BorderFields {
     let most = BorderQuarter {
         forward: 99_999,
         back: 5_000,
@@ -109,7 +111,7 @@ pub fn wide_border() -> BorderFields {
 }
 
 // A bid and a need, filed and sealed: the check of the text finds the two rows, and they are read as they were filed.
-pub fn small_book(
+pub(crate) fn small_book(
     text: &mut [u8],
     bid: BidFields,
     need: NeedFields,
@@ -121,13 +123,16 @@ pub fn small_book(
     filed.book.seal(text)
 }
 
-// Files the two members of a group; where one is refused the group is struck.
-fn two_members(
-    group: GroupUnderway,
+// An exclusive group of two bids behind what a book holds. Where a member is refused the group is struck.
+fn pair(
+    book: OpenBook,
     text: &mut [u8],
     first: BidFields,
     second: BidFields,
-) -> Result<OpenBook, Refused<OpenBook>> {
+) -> Result<OpenBook, Refused<OpenBook>>
+    ensures { λ r. ⌜ made r (λ b. (rs : List Row) → Holds (now (text .entry)) book rs → Holds (now (text .exit)) b (rs ++ kind.Group 2 ∷ kind.Bid first ∷ kind.Bid second ∷ [])) ⌝ }
+{
+    let Begun { group, row: _ } = book.group(text, 2)?;
     let group = match group.member(text, first) {
         Ok(
             Joined {
@@ -137,10 +142,13 @@ fn two_members(
         ) => group,
         Ok(
             Joined {
-                then: Membership::Last(book),
-                row: _,
+                then: Membership::Last(back),
+                row,
             },
-        ) => return Ok(book),
+        ) => return Err(Refused {
+            back,
+            fault: BookFault::Member(row),
+        }),
         Err(Refused { back, fault }) => return Err(Refused {
             back: back.strike(),
             fault,
@@ -150,9 +158,12 @@ fn two_members(
         Ok(
             Joined {
                 then: Membership::More(group),
-                row: _,
+                row,
             },
-        ) => Ok(group.strike()),
+        ) => Err(Refused {
+            back: group.strike(),
+            fault: BookFault::Member(row),
+        }),
         Ok(
             Joined {
                 then: Membership::Last(book),
@@ -166,12 +177,20 @@ fn two_members(
     }
 }
 
-// A need, a border, a bid and an exclusive group of two.
-pub fn large_book(text: &mut [u8]) -> Result<usize, Refused<OpenBook>> {
-    let filed = OpenBook::start().need(text, firm_need())?;
-    let filed = filed.book.border(text, wide_border())?;
-    let filed = filed.book.bid(text, small_bid())?;
-    let Begun { group, row: _ } = filed.book.group(text, 2)?;
-    let book = two_members(group, text, block_bid(7), block_bid(7))?;
+// A need, a border, a bid and an exclusive group of two, filed and sealed: they are checked and read as they were filed.
+pub(crate) fn large_book(
+    text: &mut [u8],
+    need: NeedFields,
+    border: BorderFields,
+    bid: BidFields,
+    first: BidFields,
+    second: BidFields,
+) -> Result<usize, Refused<OpenBook>>
+    ensures { λ r. ⌜ made r (λ n. (checked (now (text .exit)) ≡ Ok (record { length = n; rows = 6 })) × (rowsIn (now (text .exit)) ≡ kind.Need need ∷ kind.Border border ∷ kind.Bid bid ∷ kind.Group 2 ∷ kind.Bid first ∷ kind.Bid second ∷ [])) ⌝ }
+{
+    let filed = OpenBook::start().need(text, need)?;
+    let filed = filed.book.border(text, border)?;
+    let filed = filed.book.bid(text, bid)?;
+    let book = pair(filed.book, text, first, second)?;
     book.seal(text)
 }

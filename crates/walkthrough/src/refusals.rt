@@ -32,7 +32,7 @@ fn refused(rt: &impl Print, what: &str, fault: BookFault) -> io::Result<()> {
 }
 
 // 11 and 12: what the bytes of a text alone have wrong.
-pub fn of_bytes(rt: &impl Print, book: &[u8]) -> io::Result<()> {
+pub(crate) fn of_bytes(rt: &impl Print, book: &[u8]) -> io::Result<()> {
     if book.len() < 2 {
         return Ok(());
     }
@@ -42,7 +42,7 @@ pub fn of_bytes(rt: &impl Print, book: &[u8]) -> io::Result<()> {
 }
 
 // 21: a group of two, with a seal where its first member is due.
-pub fn of_members(rt: &impl Print) -> io::Result<()> {
+pub(crate) fn of_members(rt: &impl Print) -> io::Result<()> {
     checked(rt, "a seal where a group's member is due", &[0x45, 2, 0x53])
 }
 
@@ -55,7 +55,7 @@ fn bid_refused(rt: &impl Print, what: &str, fields: BidFields) -> io::Result<()>
 }
 
 // 23 and 24: the fields of a row.
-pub fn of_fields(rt: &impl Print) -> io::Result<()> {
+pub(crate) fn of_fields(rt: &impl Print) -> io::Result<()> {
     bid_refused(rt, "a bid in area 32", block_bid(32))?;
     let mut fields = small_bid();
     fields.quarters[2].minimum = 501;
@@ -70,7 +70,7 @@ pub fn of_fields(rt: &impl Print) -> io::Result<()> {
 }
 
 // 25: a group whose second member is of another area, and the group struck.
-pub fn of_groups(rt: &impl Print) -> io::Result<()> {
+pub(crate) fn of_groups(rt: &impl Print) -> io::Result<()> {
     let mut text = [0u8; 160];
     let group = match OpenBook::start().group(&mut text, 2) {
         Ok(Begun { group, row: _ }) => group,
@@ -132,7 +132,7 @@ fn struck(
 }
 
 // 26: a text too short for the next command.
-pub fn of_room(rt: &impl Print) -> io::Result<()> {
+pub(crate) fn of_room(rt: &impl Print) -> io::Result<()> {
     let mut text = [0u8; 86];
     let book = match OpenBook::start().bid(&mut text, small_bid()) {
         Ok(filed) => filed.book,
@@ -145,7 +145,7 @@ pub fn of_room(rt: &impl Print) -> io::Result<()> {
 }
 
 // 22: a row more than a book can have.
-pub fn of_rows(rt: &impl Print, heap: Global) -> Result<(), AnyError> {
+pub(crate) fn of_rows(rt: &impl Print, heap: Global) -> Result<(), AnyError> {
     let mut space = vec![in heap; 0u8; 40_000]?;
     let text = space.as_mut_slice();
     let mut book = OpenBook::start();

@@ -15,11 +15,11 @@ use units::side::Side;
 
 // A quantity in MW with one decimal; it counts units of 0.1 MW.
 #[derive(Clone, Copy)]
-pub struct Megawatts(pub u32);
+pub(crate) struct Megawatts(pub u32);
 
 // A price in euro per MWh with two decimals; it counts cents.
 #[derive(Clone, Copy)]
-pub struct Euros(pub i32);
+pub(crate) struct Euros(pub i32);
 
 pub impl fmt::Display for Megawatts as MegawattsDisplay {
     fn fmt<W: fmt::Write>(&self, f: &mut fmt::Formatter<W>) -> fmt::Result {
@@ -39,25 +39,25 @@ pub impl fmt::Display for Euros as EurosDisplay {
     }
 }
 
-pub fn side_name(side: Side) -> &'static str {
+pub(crate) fn side_name(side: Side) -> &'static str {
     match side {
         Side::Upward => "upward",
         Side::Downward => "downward",
     }
 }
 
-pub fn elasticity_name(elasticity: Elasticity) -> &'static str {
+pub(crate) fn elasticity_name(elasticity: Elasticity) -> &'static str {
     match elasticity {
         Elasticity::Elastic => "elastic",
         Elasticity::Inelastic => "inelastic",
     }
 }
 
-pub fn step_quarters(step: Step) -> u8 {
+pub(crate) fn step_quarters(step: Step) -> u8 {
     step.byte()
 }
 
-pub fn layer_name(layer: Layer) -> &'static str {
+pub(crate) fn layer_name(layer: Layer) -> &'static str {
     match layer {
         Layer::Bytes => "bytes",
         Layer::Book => "book",
@@ -68,7 +68,7 @@ pub fn layer_name(layer: Layer) -> &'static str {
     }
 }
 
-pub fn told(rt: &impl Print, what: &str, told: Told) -> io::Result<()> {
+pub(crate) fn told(rt: &impl Print, what: &str, told: Told) -> io::Result<()> {
     let number = told.number;
     let layer = layer_name(told.layer);
     let place = told.place;
@@ -146,7 +146,7 @@ fn border(rt: &impl Print, number: usize, fields: &BorderFields) -> io::Result<(
     Ok(())
 }
 
-pub fn row(rt: &impl Print, number: usize, row: Row) -> io::Result<()> {
+pub(crate) fn row(rt: &impl Print, number: usize, row: Row) -> io::Result<()> {
     match row {
         Row::Bid(fields) => bid(rt, number, &fields),
         Row::Group(members) => {

@@ -1,7 +1,10 @@
+use crate::examples::block_bid;
+use crate::examples::firm_need;
 use crate::examples::large_book;
 use crate::examples::small_bid;
 use crate::examples::small_book;
 use crate::examples::small_need;
+use crate::examples::wide_border;
 use crate::refusals;
 use crate::show;
 use book::check::check;
@@ -47,7 +50,7 @@ fn written(
     }
 }
 
-pub fn tour(rt: &impl Print, heap: Global) -> Result<(), AnyError> {
+pub(crate) fn tour(rt: &impl Print, heap: Global) -> Result<(), AnyError> {
     println!(rt, "A small book: a bid and a need")?;
     let mut small = [0u8; 100];
     let outcome = small_book(&mut small, small_bid(), small_need());
@@ -57,7 +60,14 @@ pub fn tour(rt: &impl Print, heap: Global) -> Result<(), AnyError> {
         "A larger book: a need, a border, a bid, and an exclusive group of two bids"
     )?;
     let mut large = [0u8; 300];
-    let outcome = large_book(&mut large);
+    let outcome = large_book(
+        &mut large,
+        firm_need(),
+        wide_border(),
+        small_bid(),
+        block_bid(7),
+        block_bid(7),
+    );
     written(rt, &large, outcome)?;
     println!(rt, "A text that fails its check is the book of no rows")?;
     let none = SealedBook::open(b"no book");
