@@ -1,5 +1,5 @@
-// An independent judge of book texts, written from docs/RULES.md and docs/FORMATS.md alone, and a comparison of the
-// proved check with it on random and damaged texts.
+// A judge of book texts that shares no code with the crates and follows docs/RULES.md and docs/FORMATS.md directly, and a
+// comparison of the proved check with it on random and damaged texts.
 use std::collections::BTreeMap;
 use std::time::Instant;
 
