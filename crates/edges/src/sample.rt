@@ -103,7 +103,7 @@ fn border(from: u8, to: u8, k: usize, forward: u32, back: u32) -> Row {
 
 impl Sample {
     // The row, with its own quarter in this place.
-    pub fn row(self, k: usize) -> Row {
+    pub(crate) fn row(self, k: usize) -> Row {
         let firm = Elasticity::Inelastic;
         let elastic = Elasticity::Elastic;
         match self {

@@ -15,7 +15,7 @@ use units::side::Side;
 
 // Texts spelled out by the rules, with no writer.
 
-pub fn side_byte(side: Side) -> u8 {
+pub(crate) fn side_byte(side: Side) -> u8 {
     match side {
         Side::Upward => 0,
         Side::Downward => 1,
@@ -77,7 +77,7 @@ fn spell_border(text: &mut Vec<u8>, border: BorderFields) -> Result<(), AllocErr
 }
 
 // A row's command; a price below zero is spelled as the number that has its bytes.
-pub fn spell_row(text: &mut Vec<u8>, row: Row) -> Result<(), AllocError> {
+pub(crate) fn spell_row(text: &mut Vec<u8>, row: Row) -> Result<(), AllocError> {
     match row {
         Row::Bid(bid) => spell_bid(text, bid),
         Row::Group(members) => spell(text, &[0x45, members], &[]),
@@ -87,7 +87,7 @@ pub fn spell_row(text: &mut Vec<u8>, row: Row) -> Result<(), AllocError> {
 }
 
 // The commands of rows, lawful or not, and bytes behind them.
-pub fn ended(
+pub(crate) fn ended(
     heap: Global,
     samples: &[Sample],
     k: usize,
@@ -101,13 +101,13 @@ pub fn ended(
     Ok(text)
 }
 
-pub fn told(fault: BookFault) -> Fault {
+pub(crate) fn told(fault: BookFault) -> Fault {
     let told = fault.tell();
     (told.number, told.layer, told.place)
 }
 
 // What a reader tells of a text.
-pub fn read(text: &[u8]) -> Outcome {
+pub(crate) fn read(text: &[u8]) -> Outcome {
     match check(text) {
         Ok(found) => Ok((found.length, found.rows)),
         Err(fault) => Err(told(fault)),
@@ -115,7 +115,7 @@ pub fn read(text: &[u8]) -> Outcome {
 }
 
 // What a reader tells of rows, and bytes behind them.
-pub fn read_rows(heap: Global, samples: &[Sample], end: &[u8]) -> Result<Outcome, AllocError> {
+pub(crate) fn read_rows(heap: Global, samples: &[Sample], end: &[u8]) -> Result<Outcome, AllocError> {
     let text = ended(heap, samples, 0, end)?;
     Ok(read(text.as_slice()))
 }

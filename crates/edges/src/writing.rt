@@ -71,13 +71,13 @@ fn join(group: GroupUnderway, text: &mut [u8], row: Row) -> (Writing, Result<usi
 }
 
 impl Writing {
-    pub fn start() -> Writing {
+    pub(crate) fn start() -> Writing {
         Writing::Open(OpenBook::start())
     }
 
     // Files a row, and tells its number or why it is refused. A group underway takes bids as its members, and is struck
     // before any other row.
-    pub fn file(self, text: &mut [u8], row: Row) -> (Writing, Result<usize, Fault>) {
+    pub(crate) fn file(self, text: &mut [u8], row: Row) -> (Writing, Result<usize, Fault>) {
         match self {
             Writing::Open(book) => file_in(book, text, row),
             Writing::Underway(group) => join(group, text, row),
@@ -85,7 +85,7 @@ impl Writing {
     }
 
     // The book with no group underway, the one underway struck.
-    pub fn struck(self) -> OpenBook {
+    pub(crate) fn struck(self) -> OpenBook {
         match self {
             Writing::Open(book) => book,
             Writing::Underway(group) => group.strike(),
@@ -94,7 +94,7 @@ impl Writing {
 }
 
 // Writes and seals a book of these rows, and tells what it comes to.
-pub fn write(text: &mut [u8], samples: &[Sample], k: usize) -> Outcome {
+pub(crate) fn write(text: &mut [u8], samples: &[Sample], k: usize) -> Outcome {
     let mut writing = Writing::start();
     for sample in samples {
         let (next, filed) = writing.file(text, sample.row(k));
@@ -111,7 +111,7 @@ pub fn write(text: &mut [u8], samples: &[Sample], k: usize) -> Outcome {
 
 // Tries rows by a reader, on the text that the rules spell, and by a writer, who has just the room for it. Both tell the
 // same, and a book that passes has the same bytes.
-pub fn both(heap: Global, samples: &[Sample], k: usize, wanted: Outcome) -> Result<(), Fail> {
+pub(crate) fn both(heap: Global, samples: &[Sample], k: usize, wanted: Outcome) -> Result<(), Fail> {
     let spelled = ended(heap, samples, k, &[0x53])?;
     check_eq(read(spelled.as_slice()), wanted).note("by a reader")?;
     let mut written = vec![in heap; 0u8; spelled.len()]?;
