@@ -115,7 +115,11 @@ pub(crate) fn read(text: &[u8]) -> Outcome {
 }
 
 // What a reader tells of rows, and bytes behind them.
-pub(crate) fn read_rows(heap: Global, samples: &[Sample], end: &[u8]) -> Result<Outcome, AllocError> {
+pub(crate) fn read_rows(
+    heap: Global,
+    samples: &[Sample],
+    end: &[u8],
+) -> Result<Outcome, AllocError> {
     let text = ended(heap, samples, 0, end)?;
     Ok(read(text.as_slice()))
 }

@@ -111,7 +111,12 @@ pub(crate) fn write(text: &mut [u8], samples: &[Sample], k: usize) -> Outcome {
 
 // Tries rows by a reader, on the text that the rules spell, and by a writer, who has just the room for it. Both tell the
 // same, and a book that passes has the same bytes.
-pub(crate) fn both(heap: Global, samples: &[Sample], k: usize, wanted: Outcome) -> Result<(), Fail> {
+pub(crate) fn both(
+    heap: Global,
+    samples: &[Sample],
+    k: usize,
+    wanted: Outcome,
+) -> Result<(), Fail> {
     let spelled = ended(heap, samples, k, &[0x53])?;
     check_eq(read(spelled.as_slice()), wanted).note("by a reader")?;
     let mut written = vec![in heap; 0u8; spelled.len()]?;
