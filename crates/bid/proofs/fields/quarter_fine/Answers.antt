@@ -11,6 +11,6 @@ pub returns-else-q-gt0 : goal.returns-else-q-gt0
 unfolding quarter_fine is_zero
 returns-else-q-gt0 c = search rules
 
-pub returns-else-is-price : goal.returns-else-is-price
+pub returns-else-is_price : goal.returns-else-is_price
 unfolding quarter_fine is_zero
-returns-else-is-price c = search rules
+returns-else-is_price c = search rules

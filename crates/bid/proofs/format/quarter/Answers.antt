@@ -6,9 +6,9 @@ use Rattle.bid.proofs.format.quarter.Goals as goal
 pub returns : goal.returns
 unfolding quarter_at
 returns c =
-    let f : SFits w32 c.read-i32.result = search rules in
-    let p = to_z-of_z w32 c.read-i32.result f in
-    let a = c.read-u32.ensures.value in
-    let b = c.read-u32-2.ensures.value in
-    let d = c.read-i32.ensures.value in
+    let f : SFits w32 c.read_i32.result = search rules in
+    let p = to_z-of_z w32 c.read_i32.result f in
+    let a = c.read_u32.ensures.value in
+    let b = c.read_u32-2.ensures.value in
+    let d = c.read_i32.ensures.value in
     cc

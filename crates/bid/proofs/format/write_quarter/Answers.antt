@@ -13,7 +13,7 @@ returns c =
     let a = c.args.at in
     let q = c.args.q.now in
     let f : SFits w32 q.price = search rules in
-    placed_three t c.write-u32.new.text c.write-u32-2.new.text c.write-i32.new.text a (a + 4) (a + 8) (octets 4 q.minimum) (octets 4 q.maximum) (signed_octets 4 q.price)
-    (omega arith) c.write-u32.ensures.bytes (omega (arith, length_octets 4 q.minimum))
-    c.write-u32-2.ensures.bytes (omega (arith, length_octets 4 q.maximum))
-    (c.write-i32.ensures.bytes ∙ ap (λ (z : ℤ). placed c.write-u32-2.new.text (a + 8) (signed_octets 4 z)) (to_z-of_z w32 q.price f))
+    placed_three t c.write_u32.new.text c.write_u32-2.new.text c.write_i32.new.text a (a + 4) (a + 8) (octets 4 q.minimum) (octets 4 q.maximum) (signed_octets 4 q.price)
+    (omega arith) c.write_u32.ensures.bytes (omega (arith, length_octets 4 q.minimum))
+    c.write_u32-2.ensures.bytes (omega (arith, length_octets 4 q.maximum))
+    (c.write_i32.ensures.bytes ∙ ap (λ (z : ℤ). placed c.write_u32-2.new.text (a + 8) (signed_octets 4 z)) (to_z-of_z w32 q.price f))

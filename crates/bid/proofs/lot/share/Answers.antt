@@ -6,4 +6,4 @@ use Rattle.bid.proofs.lot.share.Goals as goal
 pub returns : goal.returns
 returns c =
     eq_tests {x = c.product.result} {y = c.product-2.result} (search rules) (search rules)
-    ∙ ap₂ same_z (passed_product c.ranges.cell c.ranges.other-most c.product.ensures) (passed_product c.ranges.other c.ranges.most c.product-2.ensures)
+    ∙ ap₂ same_z (passed_product c.ranges.cell c.ranges.other_most c.product.ensures) (passed_product c.ranges.other c.ranges.most c.product-2.ensures)

@@ -15,21 +15,21 @@ returns-in-err-command c =
     let e : command_at c.args.s.at c.args.text.now ≡ Err (told_byte c.in-err-command.field-0.0) = sym c.at.ensures ∙ ap (heard told_byte) c.in-err-command.was in
     rw e (ap (heard told_book) (p.1 ∙ ap Err p.2))
 
-pub returns-then-not-is-bid : goal.returns-then-not-is-bid
+pub returns-then-not-is_bid : goal.returns-then-not-is_bid
 unfolding step_of
-returns-then-not-is-bid c =
+returns-then-not-is_bid c =
     let e : command_at c.args.s.at c.args.text.now ≡ Ok c.in-ok-command.command = sym c.at.ensures ∙ ap (heard told_byte) c.in-ok-command.was in
     rw e (search rules)
 
-pub returns-then-is-seal : goal.returns-then-is-seal
+pub returns-then-is_seal : goal.returns-then-is_seal
 unfolding step_of
-returns-then-is-seal c =
+returns-then-is_seal c =
     let e : command_at c.args.s.at c.args.text.now ≡ Ok c.in-ok-command.command = sym c.at.ensures ∙ ap (heard told_byte) c.in-ok-command.was in
     rw e (search rules)
 
-pub returns-then-s-ge-MOST-ROWS : goal.returns-then-s-ge-MOST-ROWS
+pub returns-then-s-ge-MOST_ROWS : goal.returns-then-s-ge-MOST_ROWS
 unfolding step_of
-returns-then-s-ge-MOST-ROWS c =
+returns-then-s-ge-MOST_ROWS c =
     let e : command_at c.args.s.at c.args.text.now ≡ Ok c.in-ok-command.command = sym c.at.ensures ∙ ap (heard told_byte) c.in-ok-command.was in
     rw e (search rules)
 

@@ -10,6 +10,6 @@ unfolding border_quarter_bytes
 returns c =
     let a = c.args.at in
     let q = c.args.q.now in
-    placed_then c.args.text.now c.write-u32.new.text c.write-u32-2.new.text a (a + 4) (octets 4 q.forward) (octets 4 q.back)
-    (omega arith) c.write-u32.ensures.bytes (omega (arith, length_octets 4 q.forward))
-    c.write-u32-2.ensures.bytes
+    placed_then c.args.text.now c.write_u32.new.text c.write_u32-2.new.text a (a + 4) (octets 4 q.forward) (octets 4 q.back)
+    (omega arith) c.write_u32.ensures.bytes (omega (arith, length_octets 4 q.forward))
+    c.write_u32-2.ensures.bytes

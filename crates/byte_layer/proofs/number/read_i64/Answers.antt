@@ -5,6 +5,6 @@ use Rattle.byte_layer.proofs.number.read_i64.Goals as goal
 
 pub returns : goal.returns
 returns c =
-    let f : SFits w64 c.cast-signed.result = search rules in
-    let r = signed_read w64 8 c.args.text.now c.args.at c.read-u64.result _ (record { half = refl; whole = refl }) (λ i. (c.type-inv.text i).fits) c.requires c.read-u64.ensures.value (to_z-of_z w64 c.cast-signed.result f ∙ c.cast-signed.ensures) in
+    let f : SFits w64 c.cast_signed.result = search rules in
+    let r = signed_read w64 8 c.args.text.now c.args.at c.read_u64.result _ (record { half = refl; whole = refl }) (λ i. (c.type_inv.text i).fits) c.requires c.read_u64.ensures.value (to_z-of_z w64 c.cast_signed.result f ∙ c.cast_signed.ensures) in
     record { value = r.0; stood = r.1 }

@@ -6,5 +6,5 @@ use Rattle.byte_layer.proofs.number.write_i32.Goals as goal
 pub returns : goal.returns
 returns c =
     let z = c.args.value in
-    let r = signed_written w32 4 c.args.text.now c.write-u32.new.text c.args.at c.cast-unsigned.result z (record { half = refl; whole = refl }) (holds_word w32 4 z (record { half = refl; whole = refl }) c.ranges.value) (c.cast-unsigned.ensures ∙ ap (of_z w32) (to_z-of_z w32 z c.ranges.value)) c.write-u32.ensures.bytes c.write-u32.ensures.reads in
+    let r = signed_written w32 4 c.args.text.now c.write_u32.new.text c.args.at c.cast_unsigned.result z (record { half = refl; whole = refl }) (holds_word w32 4 z (record { half = refl; whole = refl }) c.ranges.value) (c.cast_unsigned.ensures ∙ ap (of_z w32) (to_z-of_z w32 z c.ranges.value)) c.write_u32.ensures.bytes c.write_u32.ensures.reads in
     record { bytes = r.0; reads = r.1 }

@@ -9,6 +9,6 @@ returns c =
     let t = c.args.text.now in
     let at = c.args.at in
     let n = c.args.value in
-    let made : c.to-be-bytes.result ≡ octets 1 n = search rules in
-    let bytes = put_placed at 1 t c.copy-from-slice.new.self (octets 1 n) (c.copy-from-slice.ensures.after ∙ made) refl in
+    let made : c.to_be_bytes.result ≡ octets 1 n = search rules in
+    let bytes = put_placed at 1 t c.copy_from_slice.new.self (octets 1 n) (c.copy_from_slice.ensures.after ∙ made) refl in
     record { bytes = bytes; reads = reads 1 t _ at n c.requires c.ranges.value.fits bytes }

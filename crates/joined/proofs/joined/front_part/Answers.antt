@@ -8,5 +8,5 @@ returns g c =
     let m = g.L.Lot.meaning c.args.first.now in
     let le = count_le m.rows m.holds in
     let few = c.requires.few in
-    let same : c.cell-row-count.result ≡ cell_rows m = omega arith in
-    ◌∙◌ {b = take (17 * c.cell-row-count.result) c.args.cells.bytes.now} c.front.ensures (ap (λ k. take (17 * k) c.args.cells.bytes.now) same)
+    let same : c.cell_row_count.result ≡ cell_rows m = omega arith in
+    ◌∙◌ {b = take (17 * c.cell_row_count.result) c.args.cells.bytes.now} c.front.ensures (ap (λ k. take (17 * k) c.args.cells.bytes.now) same)

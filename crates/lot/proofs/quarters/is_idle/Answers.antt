@@ -11,4 +11,4 @@ returns c =
     let f1 : SFits w32 (q 1) = search rules in
     let f2 : SFits w32 (q 2) = search rules in
     let f3 : SFits w32 (q 3) = search rules in
-    every_is (λ t. is_zero (q t)) c.all-four.ensures (passed is_zero f0 c.is-zero.ensures) (passed is_zero f1 c.is-zero-2.ensures) (passed is_zero f2 c.is-zero-3.ensures) (passed is_zero f3 c.is-zero-4.ensures)
+    every_is (λ t. is_zero (q t)) c.all_four.ensures (passed is_zero f0 c.is_zero.ensures) (passed is_zero f1 c.is_zero-2.ensures) (passed is_zero f2 c.is_zero-3.ensures) (passed is_zero f3 c.is_zero-4.ensures)

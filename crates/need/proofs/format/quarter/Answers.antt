@@ -6,8 +6,8 @@ use Rattle.need.proofs.format.quarter.Goals as goal
 pub returns : goal.returns
 unfolding need_quarter_at
 returns c =
-    let f : SFits w32 c.read-i32.result = search rules in
-    let p = to_z-of_z w32 c.read-i32.result f in
-    let a = c.read-u32.ensures.value in
-    let b = c.read-i32.ensures.value in
+    let f : SFits w32 c.read_i32.result = search rules in
+    let p = to_z-of_z w32 c.read_i32.result f in
+    let a = c.read_u32.ensures.value in
+    let b = c.read_i32.ensures.value in
     cc

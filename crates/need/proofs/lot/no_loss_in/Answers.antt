@@ -17,4 +17,4 @@ returns c =
     let g1 : SFits w32 (m 1) = search rules in
     let g2 : SFits w32 (m 2) = search rules in
     let g3 : SFits w32 (m 3) = search rules in
-    every_is (λ t. le_z (pos 0) (q t *ℤ m t)) c.all-four.ensures (passed_loss f0 g0 c.no_loss.ensures) (passed_loss f1 g1 c.no-loss-2.ensures) (passed_loss f2 g2 c.no-loss-3.ensures) (passed_loss f3 g3 c.no-loss-4.ensures)
+    every_is (λ t. le_z (pos 0) (q t *ℤ m t)) c.all_four.ensures (passed_loss f0 g0 c.no_loss.ensures) (passed_loss f1 g1 c.no_loss-2.ensures) (passed_loss f2 g2 c.no_loss-3.ensures) (passed_loss f3 g3 c.no_loss-4.ensures)

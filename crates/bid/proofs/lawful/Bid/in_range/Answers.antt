@@ -13,7 +13,7 @@ returns c =
     let f1 : SFits w32 (q 1) = search rules in
     let f2 : SFits w32 (q 2) = search rules in
     let f3 : SFits w32 (q 3) = search rules in
-    every_is (λ t. le_z (least b t) (q t) && le_z (q t) (most b t)) c.all-four.ensures
+    every_is (λ t. le_z (least b t) (q t) && le_z (q t) (most b t)) c.all_four.ensures
     (passed (λ z. le_z (least b 0) z && le_z z (most b 0)) f0 c.between.ensures)
     (passed (λ z. le_z (least b 1) z && le_z z (most b 1)) f1 c.between-2.ensures)
     (passed (λ z. le_z (least b 2) z && le_z z (most b 2)) f2 c.between-3.ensures)

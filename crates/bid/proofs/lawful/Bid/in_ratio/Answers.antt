@@ -22,7 +22,7 @@ returns c =
     let e1 : m 1 ≡ most b 1 = ap (λ ys. at ys 1) c.maxima.ensures.same in
     let e2 : m 2 ≡ most b 2 = ap (λ ys. at ys 2) c.maxima.ensures.same in
     let e3 : m 3 ≡ most b 3 = ap (λ ys. at ys 3) c.maxima.ensures.same in
-    six_tests b q c.all-three.ensures c.all-three-first.ensures c.all-three-rest.ensures
+    six_tests b q c.all_three.ensures c.all_three-first.ensures c.all_three-rest.ensures
     (pair_is f0 g1 f1 g0 c.share.ensures ∙ (λ i. same_z (q 0 *ℤ e1 i) (q 1 *ℤ e0 i)))
     (pair_is f0 g2 f2 g0 c.share-2.ensures ∙ (λ i. same_z (q 0 *ℤ e2 i) (q 2 *ℤ e0 i)))
     (pair_is f0 g3 f3 g0 c.share-3.ensures ∙ (λ i. same_z (q 0 *ℤ e3 i) (q 3 *ℤ e0 i)))

@@ -15,8 +15,8 @@ returns c =
     let f = c.args.self.now.fields in
     let q = λ (k : ℕ). quarter_bytes (bid_quarter f.quarters k) in
     let l = λ (k : ℕ). length_quarter (bid_quarter f.quarters k) in
-    placed_five t c.write-bytes.new.text c.write-quarter.new.text c.write-quarter-2.new.text c.write-quarter-3.new.text c.write-quarter-4.new.text
+    placed_five t c.write_bytes.new.text c.write_quarter.new.text c.write_quarter-2.new.text c.write_quarter-3.new.text c.write_quarter-4.new.text
     a (a + 2) (a + 14) (a + 26) (a + 38) (f.area ∷ side_byte f.side ∷ []) (q 0) (q 1) (q 2) (q 3)
-    (omega arith) (c.write-bytes.ensures ∙ ap (λ (x : ℕ). placed t a (f.area ∷ x ∷ [])) c.byte.ensures) refl
-    c.write-quarter.ensures (omega (arith, l 0)) c.write-quarter-2.ensures (omega (arith, l 1))
-    c.write-quarter-3.ensures (omega (arith, l 2)) c.write-quarter-4.ensures
+    (omega arith) (c.write_bytes.ensures ∙ ap (λ (x : ℕ). placed t a (f.area ∷ x ∷ [])) c.byte.ensures) refl
+    c.write_quarter.ensures (omega (arith, l 0)) c.write_quarter-2.ensures (omega (arith, l 1))
+    c.write_quarter-3.ensures (omega (arith, l 2)) c.write_quarter-4.ensures

@@ -2,8 +2,8 @@ use Rattle.std.proofs.Common.{lit<}
 use Rattle.border.proofs.Steps.{rented_quarter, rented_half, rented_small, two_fit, rents_in_one, rents_in_two}
 use Rattle.border.proofs.lawful.Border.greatest_rent.Goals as goal
 
-pub add-four-requires : goal.add-four-requires
-add-four-requires c =
+pub add_four-requires : goal.add_four-requires
+add_four-requires c =
     let x = c.args.self.now in
     let b = c.args.prices.bytes.now in (
       rented_small x b c.requires (rented_quarter x b c.requires 0 (lit< tt) c.quarter.ensures c.best_first.ensures),
@@ -33,7 +33,7 @@ returns-in-One c =
     (rented_quarter x b c.requires 1 (lit< tt) c.quarter-in-One.ensures c.best-second.ensures)
     (rented_quarter x b c.requires 2 (lit< tt) c.quarter-in-One-2.ensures c.best-third.ensures)
     (rented_quarter x b c.requires 3 (lit< tt) c.quarter-in-One-3.ensures c.best-fourth.ensures)
-    c.add-four.ensures
+    c.add_four.ensures
 
 pub returns-in-Two : goal.returns-in-Two
 returns-in-Two c =

@@ -15,8 +15,8 @@ returns c =
     let f = c.args.self.now.fields in
     let q = λ (k : ℕ). border_quarter_bytes (border_quarter f.quarters k) in
     let l = λ (k : ℕ). length_quarter (border_quarter f.quarters k) in
-    placed_five t c.write-bytes.new.text c.write-quarter.new.text c.write-quarter-2.new.text c.write-quarter-3.new.text c.write-quarter-4.new.text
+    placed_five t c.write_bytes.new.text c.write_quarter.new.text c.write_quarter-2.new.text c.write_quarter-3.new.text c.write_quarter-4.new.text
     a (a + 3) (a + 11) (a + 19) (a + 27) (f.from ∷ f.to ∷ step_byte f.step ∷ []) (q 0) (q 1) (q 2) (q 3)
-    (omega arith) (c.write-bytes.ensures ∙ ap (λ (x : ℕ). placed t a (f.from ∷ f.to ∷ x ∷ [])) c.byte.ensures) refl
-    c.write-quarter.ensures (omega (arith, l 0)) c.write-quarter-2.ensures (omega (arith, l 1))
-    c.write-quarter-3.ensures (omega (arith, l 2)) c.write-quarter-4.ensures
+    (omega arith) (c.write_bytes.ensures ∙ ap (λ (x : ℕ). placed t a (f.from ∷ f.to ∷ x ∷ [])) c.byte.ensures) refl
+    c.write_quarter.ensures (omega (arith, l 0)) c.write_quarter-2.ensures (omega (arith, l 1))
+    c.write_quarter-3.ensures (omega (arith, l 2)) c.write_quarter-4.ensures

@@ -6,4 +6,4 @@ cell-flow-requires c = (c.requires.quarter, row_long c.args.self.now.fields c.ar
 
 pub returns : goal.returns
 returns c = net_is c.args.self.now.fields c.args.cells.bytes.now c.args.area c.args.quarter c.cell-flow.result c.carried.result
-    c.cell-flow.ensures (record { sfits = c.cell-flow.type-inv }) c.carried.ensures (record { sfits = c.carried.type-inv })
+    c.cell-flow.ensures (record { sfits = c.cell-flow.type_inv }) c.carried.ensures (record { sfits = c.carried.type_inv })

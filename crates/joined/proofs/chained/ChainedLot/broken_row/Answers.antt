@@ -7,26 +7,26 @@ use Rattle.joined.proofs.chained.ChainedLot.broken_row.Goals as goal
 pub walk-init : goal.walk-init
 walk-init g c = passing_none (breaks _ (priced_quoted _ c.requires.priced)) c.requires.ready
 
-pub front-part-requires : goal.front-part-requires
-front-part-requires g c = asks c.split-lot.ensures.step c.walk.invariant.asked.sized
+pub front_part-requires : goal.front_part-requires
+front_part-requires g c = asks c.split-lot.ensures.step c.walk.invariant.asked.sized
 
-pub broken-row-requires : goal.broken-row-requires
-broken-row-requires g c = record { ready = first_ready c.split-lot.ensures.step c.front-part.ensures c.walk.invariant.asked; priced = c.requires.priced }
+pub broken_row-requires : goal.broken_row-requires
+broken_row-requires g c = record { ready = first_ready c.split-lot.ensures.step c.front_part.ensures c.walk.invariant.asked; priced = c.requires.priced }
 
 pub overflow-add-result : goal.overflow-add-result
 overflow-add-result g c =
-    let below = passing_below (breaks _ (priced_quoted _ c.requires.priced)) c.split-lot.ensures.step c.walk.invariant c.front-part.ensures _ c.broken-row.ensures _ c.in-Some.is in
+    let below = passing_below (breaks _ (priced_quoted _ c.requires.priced)) c.split-lot.ensures.step c.walk.invariant c.front_part.ensures _ c.broken_row.ensures _ c.in-Some.is in
     let few = c.requires.ready.sized.few in
     omega arith
 
 pub returns-in-Some : goal.returns-in-Some
-returns-in-Some g c = passing_here (breaks _ (priced_quoted _ c.requires.priced)) c.split-lot.ensures.step c.walk.invariant c.front-part.ensures _ c.broken-row.ensures _ c.in-Some.is
+returns-in-Some g c = passing_here (breaks _ (priced_quoted _ c.requires.priced)) c.split-lot.ensures.step c.walk.invariant c.front_part.ensures _ c.broken_row.ensures _ c.in-Some.is
 
-pub rest-part-rest-requires : goal.rest-part-rest-requires
-rest-part-rest-requires g c = asks c.split-lot.ensures.step c.walk.invariant.asked.sized
+pub rest_part-rest-requires : goal.rest_part-rest-requires
+rest_part-rest-requires g c = asks c.split-lot.ensures.step c.walk.invariant.asked.sized
 
 pub walk-preserved : goal.walk-preserved
-walk-preserved g c = passing_next (breaks _ (priced_quoted _ c.requires.priced)) c.split-lot.ensures.step c.walk.invariant c.front-part.ensures _ c.broken-row.ensures c.in-default.is c.rest-part-rest.ensures _ c.row-count-passed.ensures
+walk-preserved g c = passing_next (breaks _ (priced_quoted _ c.requires.priced)) c.split-lot.ensures.step c.walk.invariant c.front_part.ensures _ c.broken_row.ensures c.in-default.is c.rest_part-rest.ensures _ c.row_count-passed.ensures
 
 pub returns : goal.returns
 returns g c = passing_end (breaks _ (priced_quoted _ c.requires.priced)) c.walk.invariant (g.C.Chain.ends _ (omega arith))

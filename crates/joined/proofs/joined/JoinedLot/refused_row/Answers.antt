@@ -2,29 +2,29 @@ use Rattle.std.proofs.Common.{arith}
 use Rattle.joined.proofs.Halves.{both, asks, first_sized, next_sized, refusals, named_first, named_neither, named_below, named_second}
 use Rattle.joined.proofs.joined.JoinedLot.refused_row.Goals as goal
 
-pub front-part-requires : goal.front-part-requires
-front-part-requires g c = asks (both g.A.Lot g.B.Lot c.args.self.now.0 c.args.self.now.1) c.requires
+pub front_part-requires : goal.front_part-requires
+front_part-requires g c = asks (both g.A.Lot g.B.Lot c.args.self.now.0 c.args.self.now.1) c.requires
 
-pub refused-row-requires : goal.refused-row-requires
-refused-row-requires g c = first_sized (both g.A.Lot g.B.Lot c.args.self.now.0 c.args.self.now.1) c.front-part.ensures c.requires
+pub refused_row-requires : goal.refused_row-requires
+refused_row-requires g c = first_sized (both g.A.Lot g.B.Lot c.args.self.now.0 c.args.self.now.1) c.front_part.ensures c.requires
 
 pub returns-in-Some : goal.returns-in-Some
-returns-in-Some g c = named_first refusals (both g.A.Lot g.B.Lot c.args.self.now.0 c.args.self.now.1) c.args.cells.bytes.now _ c.front-part.ensures _ c.refused-row.ensures _ c.in-Some.is
+returns-in-Some g c = named_first refusals (both g.A.Lot g.B.Lot c.args.self.now.0 c.args.self.now.1) c.args.cells.bytes.now _ c.front_part.ensures _ c.refused_row.ensures _ c.in-Some.is
 
-pub rest-part-requires : goal.rest-part-requires
-rest-part-requires g c = asks (both g.A.Lot g.B.Lot c.args.self.now.0 c.args.self.now.1) c.requires
+pub rest_part-requires : goal.rest_part-requires
+rest_part-requires g c = asks (both g.A.Lot g.B.Lot c.args.self.now.0 c.args.self.now.1) c.requires
 
-pub refused-row-requires-2 : goal.refused-row-requires-2
-refused-row-requires-2 g c = next_sized (both g.A.Lot g.B.Lot c.args.self.now.0 c.args.self.now.1) c.rest-part.ensures c.requires
+pub refused_row-requires-2 : goal.refused_row-requires-2
+refused_row-requires-2 g c = next_sized (both g.A.Lot g.B.Lot c.args.self.now.0 c.args.self.now.1) c.rest_part.ensures c.requires
 
 pub overflow-add-result : goal.overflow-add-result
 overflow-add-result g c =
-    let below = named_below refusals (both g.A.Lot g.B.Lot c.args.self.now.0 c.args.self.now.1) c.args.cells.bytes.now _ c.front-part.ensures _ c.refused-row.ensures c.in-default.is _ c.rest-part.ensures _ c.refused-row-2.ensures c.requires _ c.in-Some-refused-row.is in
+    let below = named_below refusals (both g.A.Lot g.B.Lot c.args.self.now.0 c.args.self.now.1) c.args.cells.bytes.now _ c.front_part.ensures _ c.refused_row.ensures c.in-default.is _ c.rest_part.ensures _ c.refused_row-2.ensures c.requires _ c.in-Some-refused_row.is in
     let few = c.requires.few in
     omega arith
 
-pub returns-in-Some-refused-row : goal.returns-in-Some-refused-row
-returns-in-Some-refused-row g c = named_second refusals (both g.A.Lot g.B.Lot c.args.self.now.0 c.args.self.now.1) c.args.cells.bytes.now _ c.front-part.ensures _ c.refused-row.ensures c.in-default.is _ c.rest-part.ensures _ c.refused-row-2.ensures c.requires _ c.in-Some-refused-row.is _ c.row-count.ensures
+pub returns-in-Some-refused_row : goal.returns-in-Some-refused_row
+returns-in-Some-refused_row g c = named_second refusals (both g.A.Lot g.B.Lot c.args.self.now.0 c.args.self.now.1) c.args.cells.bytes.now _ c.front_part.ensures _ c.refused_row.ensures c.in-default.is _ c.rest_part.ensures _ c.refused_row-2.ensures c.requires _ c.in-Some-refused_row.is _ c.row_count.ensures
 
 pub returns-in-None : goal.returns-in-None
-returns-in-None g c = named_neither refusals (both g.A.Lot g.B.Lot c.args.self.now.0 c.args.self.now.1) c.args.cells.bytes.now _ c.front-part.ensures _ c.refused-row.ensures c.in-default.is _ c.rest-part.ensures _ c.refused-row-2.ensures c.in-None.is
+returns-in-None g c = named_neither refusals (both g.A.Lot g.B.Lot c.args.self.now.0 c.args.self.now.1) c.args.cells.bytes.now _ c.front_part.ensures _ c.refused_row.ensures c.in-default.is _ c.rest_part.ensures _ c.refused_row-2.ensures c.in-None.is

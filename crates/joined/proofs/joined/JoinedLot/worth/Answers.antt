@@ -4,22 +4,22 @@ use Rattle.joined.proofs.Halves.{both, asks, first_ready, next_ready, worths}
 use Rattle.joined.proofs.Walks.{seeking_none, seeking_here, seeking_next}
 use Rattle.joined.proofs.joined.JoinedLot.worth.Goals as goal
 
-pub front-part-requires : goal.front-part-requires
-front-part-requires g c = asks (both g.A.Lot g.B.Lot c.args.self.now.0 c.args.self.now.1) c.requires.ready.sized
+pub front_part-requires : goal.front_part-requires
+front_part-requires g c = asks (both g.A.Lot g.B.Lot c.args.self.now.0 c.args.self.now.1) c.requires.ready.sized
 
 pub worth-requires : goal.worth-requires
-worth-requires g c = record { ready = first_ready (both g.A.Lot g.B.Lot c.args.self.now.0 c.args.self.now.1) c.front-part.ensures c.requires.ready; row = omega arith }
+worth-requires g c = record { ready = first_ready (both g.A.Lot g.B.Lot c.args.self.now.0 c.args.self.now.1) c.front_part.ensures c.requires.ready; row = omega arith }
 
-pub rest-part-requires : goal.rest-part-requires
-rest-part-requires g c = asks (both g.A.Lot g.B.Lot c.args.self.now.0 c.args.self.now.1) c.requires.ready.sized
+pub rest_part-requires : goal.rest_part-requires
+rest_part-requires g c = asks (both g.A.Lot g.B.Lot c.args.self.now.0 c.args.self.now.1) c.requires.ready.sized
 
 pub worth-requires-else-row-rows : goal.worth-requires-else-row-rows
-worth-requires-else-row-rows g c = record { ready = next_ready (both g.A.Lot g.B.Lot c.args.self.now.0 c.args.self.now.1) c.rest-part.ensures c.requires.ready; row = let few = c.requires.ready.sized.few in omega arith }
+worth-requires-else-row-rows g c = record { ready = next_ready (both g.A.Lot g.B.Lot c.args.self.now.0 c.args.self.now.1) c.rest_part.ensures c.requires.ready; row = let few = c.requires.ready.sized.few in omega arith }
 
 pub returns-then-row-rows : goal.returns-then-row-rows
 returns-then-row-rows g c = to_z-of_z w64 c.worth.result (search rules) ∙ c.worth.ensures
-    ∙ seeking_here (both g.A.Lot g.B.Lot c.args.self.now.0 c.args.self.now.1) (seeking_none {w = λ m d r. m.worth d r} c.requires.ready c.requires.row) _ c.row-count-rows.ensures worths c.front-part.ensures c.if-row-rows.true
+    ∙ seeking_here (both g.A.Lot g.B.Lot c.args.self.now.0 c.args.self.now.1) (seeking_none {w = λ m d r. m.worth d r} c.requires.ready c.requires.row) _ c.row_count-rows.ensures worths c.front_part.ensures c.if-row-rows.true
 
 pub returns-else-row-rows : goal.returns-else-row-rows
 returns-else-row-rows g c = to_z-of_z w64 c.worth-else-row-rows.result (search rules) ∙ c.worth-else-row-rows.ensures
-    ∙ (seeking_next (both g.A.Lot g.B.Lot c.args.self.now.0 c.args.self.now.1) (seeking_none {w = λ m d r. m.worth d r} c.requires.ready c.requires.row) _ c.row-count-rows.ensures worths c.rest-part.ensures c.if-row-rows.false).same
+    ∙ (seeking_next (both g.A.Lot g.B.Lot c.args.self.now.0 c.args.self.now.1) (seeking_none {w = λ m d r. m.worth d r} c.requires.ready c.requires.row) _ c.row_count-rows.ensures worths c.rest_part.ensures c.if-row-rows.false).same

@@ -21,5 +21,5 @@ returns c =
     let g1 : SFits w32 (m 1) = search rules in
     let g2 : SFits w32 (m 2) = search rules in
     let g3 : SFits w32 (m 3) = search rules in
-    every_is (λ t. le_z (pos 0) (q t) && le_z (q t) (m t)) c.all-four.ensures (passed_range f0 g0 c.within.ensures) (passed_range f1 g1 c.within-2.ensures) (passed_range f2 g2 c.within-3.ensures) (passed_range f3 g3 c.within-4.ensures)
+    every_is (λ t. le_z (pos 0) (q t) && le_z (q t) (m t)) c.all_four.ensures (passed_range f0 g0 c.within.ensures) (passed_range f1 g1 c.within-2.ensures) (passed_range f2 g2 c.within-3.ensures) (passed_range f3 g3 c.within-4.ensures)
     ∙ every_same 4 (λ t. le_z (pos 0) (q t) && le_z (q t) (m t)) (λ t. le_z (pos 0) (q t) && le_z (q t) (wanted b t)) (λ t l. ap (λ z. le_z (pos 0) (q t) && le_z (q t) z) (ap (λ ys. at ys t) c.maxima.ensures.same ∙ four_at (wanted b) t l))

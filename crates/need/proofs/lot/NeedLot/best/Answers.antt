@@ -13,8 +13,8 @@ use Rattle.need.proofs.lot.NeedLot.best.Goals as goal
 pub gains-requires : goal.gains-requires
 gains-requires c = record { fair = fair (need_trade c.args.self.now.fields) (inside c.args.self.now) (priced c.args.self.now) c.terms.result c.terms.ensures; priced = c.requires.priced }
 
-pub most-earned-in-requires : goal.most-earned-in-requires
-most-earned-in-requires c = record { maxima = c.maxima.ensures.small; gains = gains_small (need_trade c.args.self.now.fields) (inside c.args.self.now) (priced c.args.self.now) c.terms.result c.terms.ensures c.args.prices.bytes.now c.requires.priced c.gains.result c.gains.ensures }
+pub most_earned_in-requires : goal.most_earned_in-requires
+most_earned_in-requires c = record { maxima = c.maxima.ensures.small; gains = gains_small (need_trade c.args.self.now.fields) (inside c.args.self.now) (priced c.args.self.now) c.terms.result c.terms.ensures c.args.prices.bytes.now c.requires.priced c.gains.result c.gains.ensures }
 
 pub returns : goal.returns
 returns c =
@@ -22,7 +22,7 @@ returns c =
     let f = wanted b.fields in
     let g = gain (need_trade b.fields) (table_of c.args.prices.bytes.now) in
     let eg = gains_are (need_trade b.fields) (inside b) (priced b) c.terms.result c.terms.ensures c.args.prices.bytes.now c.requires.priced c.gains.result c.gains.ensures in
-    to_z-of_z w64 c.most-earned-in.result (search rules)
-    ∙ c.most-earned-in.ensures
+    to_z-of_z w64 c.most_earned_in.result (search rules)
+    ∙ c.most_earned_in.ensures
     ∙ sum_same 4 (λ t. int_max (pos 0) (at c.maxima.result t *ℤ at c.gains.result t)) (λ t. int_max (pos 0) (f t *ℤ g t))
     (λ t l. ap (int_max (pos 0)) (ap₂ ◌*ℤ◌ (ap (λ ys. at ys t) c.maxima.ensures.same ∙ four_at f t l) (ap (λ ys. at ys t) eg ∙ four_at g t l)))

@@ -15,10 +15,10 @@ pub returns-then-kept : goal.returns-then-kept
 returns-then-kept c =
     let b = c.args.self.now in
     let p = c.args.prices.bytes.now in
-    named_by {v = true} (rule_is b c.args.cells.bytes.now p c.row.result c.gains.result c.row.ensures (gains_are (need_trade b.fields) (inside b) (priced b) c.terms.result c.terms.ensures p c.requires.priced c.gains.result c.gains.ensures) c.no-loss-in-kept.ensures) c.if-kept.true
+    named_by {v = true} (rule_is b c.args.cells.bytes.now p c.row.result c.gains.result c.row.ensures (gains_are (need_trade b.fields) (inside b) (priced b) c.terms.result c.terms.ensures p c.requires.priced c.gains.result c.gains.ensures) c.no_loss_in-kept.ensures) c.if-kept.true
 
 pub returns-else-kept : goal.returns-else-kept
 returns-else-kept c =
     let b = c.args.self.now in
     let p = c.args.prices.bytes.now in
-    named_by {v = false} (rule_is b c.args.cells.bytes.now p c.row.result c.gains.result c.row.ensures (gains_are (need_trade b.fields) (inside b) (priced b) c.terms.result c.terms.ensures p c.requires.priced c.gains.result c.gains.ensures) c.no-loss-in-kept.ensures) c.if-kept.false
+    named_by {v = false} (rule_is b c.args.cells.bytes.now p c.row.result c.gains.result c.row.ensures (gains_are (need_trade b.fields) (inside b) (priced b) c.terms.result c.terms.ensures p c.requires.priced c.gains.result c.gains.ensures) c.no_loss_in-kept.ensures) c.if-kept.false

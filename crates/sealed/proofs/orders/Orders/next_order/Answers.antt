@@ -33,8 +33,8 @@ returns-in-Group c =
       step = subst (λ (qs : List Row). Parted (book_meaning qs) (grouping ms) (book_meaning rs)) (sym whole) (first_group c.in-Group.size ms rs c.group.ensures.size);
     }
 
-pub single-order-requires : goal.single-order-requires
-single-order-requires c =
+pub single_order-requires : goal.single_order-requires
+single_order-requires c =
     let x = c.args.self.rows in
     record {
       lawful = lawful_first c.next-row.result.0 _ (ap lawful_rows (sym c.next-row.ensures.ahead) ∙ x.lawful);

@@ -6,8 +6,8 @@ use Rattle.sealed.specs.Lot.{lawful_rows}
 use Rattle.sealed.proofs.Turns.{on_reads, on_rows, lawful_rest}
 use Rattle.sealed.proofs.rows.Rows.behind.Goals as goal
 
-pub from-place-requires : goal.from-place-requires
-from-place-requires c =
+pub from_place-requires : goal.from_place-requires
+from_place-requires c =
     let x = c.args.self in
     let m = (step_moves x.stand x.rest.now c.args.row.now c.args.next c.requires).fits in
     let e = c.size.ensures in
@@ -26,7 +26,7 @@ invariant-of-result c =
     let t = x.rest.now in
     let r = c.args.row.now in
     let n = c.args.next in
-    let e : drop (row_size r) t ≡ c.from-place.result.now = sym (c.from-place.ensures ∙ ap (λ k. drop k t) c.size.ensures) in
+    let e : drop (row_size r) t ≡ c.from_place.result.now = sym (c.from_place.ensures ∙ ap (λ k. drop k t) c.size.ensures) in
     let rows = on_rows x.stand t r n c.requires x.sound in
     let m = step_moves x.stand t r n c.requires in
     let fits = m.fits in

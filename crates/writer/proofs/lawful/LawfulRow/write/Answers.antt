@@ -13,19 +13,19 @@ pub returns-in-Bid : goal.returns-in-Bid
 returns-in-Bid c =
     let t = c.args.text.now in
     let a = c.args.at in
-    placed_then t c.write-bytes.new.text c.write.new.text a (a + 1) (0x42 ∷ []) (bid_bytes c.in-Bid.bid.fields) (omega arith) c.write-bytes.ensures refl c.write.ensures
+    placed_then t c.write_bytes.new.text c.write.new.text a (a + 1) (0x42 ∷ []) (bid_bytes c.in-Bid.bid.fields) (omega arith) c.write_bytes.ensures refl c.write.ensures
     ∙ ap (λ (x : LawfulRow). placed t a (row_bytes (row_of x))) (sym c.in-Bid.is)
 
 pub returns-in-Need : goal.returns-in-Need
 returns-in-Need c =
     let t = c.args.text.now in
     let a = c.args.at in
-    placed_then t c.write-bytes-in-Need.new.text c.write-in-Need.new.text a (a + 1) (0x4E ∷ []) (need_bytes c.in-Need.need.fields) (omega arith) c.write-bytes-in-Need.ensures refl c.write-in-Need.ensures
+    placed_then t c.write_bytes-in-Need.new.text c.write-in-Need.new.text a (a + 1) (0x4E ∷ []) (need_bytes c.in-Need.need.fields) (omega arith) c.write_bytes-in-Need.ensures refl c.write-in-Need.ensures
     ∙ ap (λ (x : LawfulRow). placed t a (row_bytes (row_of x))) (sym c.in-Need.is)
 
 pub returns-in-Border : goal.returns-in-Border
 returns-in-Border c =
     let t = c.args.text.now in
     let a = c.args.at in
-    placed_then t c.write-bytes-in-Border.new.text c.write-in-Border.new.text a (a + 1) (0x4C ∷ []) (border_bytes c.in-Border.border.fields) (omega arith) c.write-bytes-in-Border.ensures refl c.write-in-Border.ensures
+    placed_then t c.write_bytes-in-Border.new.text c.write-in-Border.new.text a (a + 1) (0x4C ∷ []) (border_bytes c.in-Border.border.fields) (omega arith) c.write_bytes-in-Border.ensures refl c.write-in-Border.ensures
     ∙ ap (λ (x : LawfulRow). placed t a (row_bytes (row_of x))) (sym c.in-Border.is)

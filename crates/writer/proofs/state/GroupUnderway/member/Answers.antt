@@ -21,4 +21,4 @@ returns-in-Ok c =
     let g = c.args.self in
     let p : Joined = record { «then» = c.onward.result; row = g.rows } in
     let m : MemberFiled g c.args.text.now c.args.fields p c.write.new.text = record { passed = k.passed; next = c.onward.ensures; row = refl; text = c.write.ensures ∙ ap (λ (x : Row). placed c.args.text.now g.length (row_bytes x)) k.same } in
-    record { outcome = m; holds = λ rs ms o. member_holds g c.args.text.now c.write.new.text c.args.fields p c.are-four.ensures m rs ms o }
+    record { outcome = m; holds = λ rs ms o. member_holds g c.args.text.now c.write.new.text c.args.fields p c.are_four.ensures m rs ms o }

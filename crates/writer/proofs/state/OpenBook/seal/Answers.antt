@@ -7,5 +7,5 @@ use Rattle.writer.proofs.state.OpenBook.seal.Goals as goal
 pub returns-in-Ok : goal.returns-in-Ok
 returns-in-Ok c =
     let b = c.args.self in
-    let s : BookSealed b c.args.text.now (b.length + 1) c.write-bytes.new.text = record { passed = sym c.in-Ok.ensures; length = refl; text = c.write-bytes.ensures } in
-    record { outcome = s; reads = λ rs w. sealed_checks c.args.text.now c.write-bytes.new.text (opened b) rs w refl s.text }
+    let s : BookSealed b c.args.text.now (b.length + 1) c.write_bytes.new.text = record { passed = sym c.in-Ok.ensures; length = refl; text = c.write_bytes.ensures } in
+    record { outcome = s; reads = λ rs w. sealed_checks c.args.text.now c.write_bytes.new.text (opened b) rs w refl s.text }
