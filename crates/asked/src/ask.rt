@@ -1,5 +1,5 @@
 ghost use Rattle.std.specs.Prelude.{◌≡◌, ℕ};
-ghost use Rattle.asked.specs.Asked.{refused_of, net_of, worth_of, amount_of, best_of_lem, broken_of, Ceiling};
+ghost use Rattle.asked.specs.Asked.{refused_of, net_of, worth_of, amount_of, best_of, broken_of, Ceiling};
 
 use crate::may::{may_ask, may_figure, may_hold, may_price};
 use lot::lot::Lot;

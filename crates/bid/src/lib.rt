@@ -4,5 +4,5 @@ pub mod fields;
 pub mod format;
 pub mod group;
 pub mod lawful;
-pub mod lot;
+pub mod as_lot;
 pub mod size;

@@ -12,7 +12,7 @@ use Rattle.border.specs.declared.fields.BorderFields.{BorderFields}
 use Rattle.border.specs.declared.lawful.Border.{Border}
 use Rattle.border.specs.declared.stretch.Stretch.{Stretch}
 use Rattle.border.specs.Stretch.{both, stretch_best, stretch_keeps}
-use Rattle.border.specs.Flow.{Block, blocks, total_from, least, total, sum_over, every_of_lem, forward_at, back_at, gap_at, stretch, flowing}
+use Rattle.border.specs.Flow.{Block, blocks, total_from, least, total, sum_over, every_of, forward_at, back_at, gap_at, stretch, flowing}
 use Rattle.border.specs.Laws.Flows.{Lawful, lawful, least_le, small_gap}
 
 pub lawful_fields : (x : Border) → Lawful x.fields

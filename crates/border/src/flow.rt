@@ -1,6 +1,6 @@
 ghost use Rattle.std.specs.Prelude.{◌≡◌, ℕ, ◌+◌, ◌<◌, [], ◌∷◌};
 ghost use Rattle.lot.specs.Page.{at, table_of, Priced};
-ghost use Rattle.border.specs.Flow.{every_of_lem, steady, passes, carried, stretch, flowing};
+ghost use Rattle.border.specs.Flow.{every_of, steady, passes, carried, stretch, flowing};
 
 use crate::fields::BorderQuarter;
 use crate::lawful::Border;

@@ -4,6 +4,6 @@ pub mod fields;
 pub mod flow;
 pub mod format;
 pub mod lawful;
-pub mod lot;
+pub mod as_lot;
 pub mod step;
 pub mod stretch;

@@ -9,7 +9,7 @@ use byte_layer::fault::Layer::{Book, Bytes};
 use byte_layer::fault::{ByteFault, Layer};
 use need::elasticity::Elasticity;
 use need::fields::{NeedFields, NeedQuarter};
-use sealed::book::SealedBook;
+use sealed::sealed_book::SealedBook;
 use std::alloc::{AllocError, Global};
 use std::test::Fail;
 use units::side::Side;

@@ -7,11 +7,10 @@ use crate::chain::Chain;
 use lot::lot::Lot;
 
 // Lots of one kind, one after another.
+#[derive_where(Clone, Copy)]
 pub struct Slice<'a, L> {
     pub lots: &'a [L],
 }
-
-impl<'a, L> Copy for Slice<'a, L> {}
 
 impl<'a, L: Lot> Chain for Slice<'a, L> {
     type Link = &'a L;

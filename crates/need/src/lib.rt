@@ -4,4 +4,4 @@ pub mod elasticity;
 pub mod fields;
 pub mod format;
 pub mod lawful;
-pub mod lot;
+pub mod as_lot;

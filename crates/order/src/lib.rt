@@ -1,4 +1,4 @@
 #![tactic(auto)]
 
-pub mod lot;
+pub mod as_lot;
 pub mod order;

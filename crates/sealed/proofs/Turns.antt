@@ -28,7 +28,7 @@ use Rattle.book.proofs.Trip.{seal_is}
 use Rattle.book.proofs.Steps.{cond_case, no_none, step_took, step_moves, row_has, step_ended, reads_seal, reads_fault}
 use Rattle.sealed.specs.Book.{passes}
 use Rattle.sealed.specs.Lot.{lawful_row, lawful_rows}
-use Rattle.sealed.specs.Ahead.{reads, reads_on_lem, ahead}
+use Rattle.sealed.specs.Ahead.{reads, reads_on, ahead}
 use Rattle.sealed.specs.Members.{MemberOn}
 
 -- one turn

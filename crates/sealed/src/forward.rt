@@ -5,7 +5,7 @@ ghost use Rattle.book.specs.Stands.{begin, after};
 ghost use Rattle.book.specs.Reading.{step_of, rows_in};
 ghost use Rattle.sealed.specs.Ahead.{ahead};
 
-use crate::book::SealedBook;
+use crate::sealed_book::SealedBook;
 use crate::rows::Rows;
 use book::row::Row;
 use book::stand::Stand;

@@ -1,8 +1,8 @@
 #![tactic(auto)]
 
-pub mod book;
+pub mod sealed_book;
 pub mod forward;
-pub mod lot;
+pub mod as_lot;
 pub mod orders;
 pub mod reading;
 pub mod rows;

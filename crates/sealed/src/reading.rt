@@ -3,7 +3,7 @@ ghost use Rattle.std.specs.List.{slice_get};
 ghost use Rattle.book.specs.Reading.{checked, rows_in};
 ghost use Rattle.sealed.specs.Book.{book_text};
 
-use crate::book::SealedBook;
+use crate::sealed_book::SealedBook;
 use book::check::{Checked, check};
 use book::command::SEAL;
 use book::row::Row;

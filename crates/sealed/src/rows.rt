@@ -1,5 +1,5 @@
 ghost use Rattle.std.specs.Prelude.{◌≡◌, ◌+◌, ◌^◌, ◌<◌, true, ◌∷◌, length};
-ghost use Rattle.sealed.specs.Ahead.{reads_on_lem, ahead};
+ghost use Rattle.sealed.specs.Ahead.{reads_on, ahead};
 ghost use Rattle.sealed.specs.Lot.{lawful_rows};
 
 use book::stand::Stand;

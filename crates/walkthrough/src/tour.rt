@@ -3,7 +3,7 @@ use crate::examples::{
 };
 use crate::{refusals, show};
 use book::check::check;
-use sealed::book::SealedBook;
+use sealed::sealed_book::SealedBook;
 use std::alloc::Global;
 use std::io;
 use writer::state::{OpenBook, Refused};

@@ -25,7 +25,7 @@ use Rattle.border.specs.declared.fields.BorderFields.{BorderFields}
 use Rattle.border.specs.declared.stretch.Stretch.{Stretch}
 use Rattle.border.specs.Fields.{border_quarter, border_placed, border_quarter_fine, border_fine}
 use Rattle.border.specs.Stretch.{stretch_best, stretch_keeps}
-use Rattle.border.specs.Flow.{Block, blocks, least_from, total_from, least, total, sum_over, every_of_lem, steady, forward_at, back_at, passes, carried, gap_at, stretch, flowing}
+use Rattle.border.specs.Flow.{Block, blocks, least_from, total_from, least, total, sum_over, every_of, steady, forward_at, back_at, passes, carried, gap_at, stretch, flowing}
 
 -- ---- the members of a list
 all_map : {A : Type 0} (P R : A → Type 0) → ((x : A) → P x → R x) → (xs : List A) → All P xs → All R xs

@@ -245,8 +245,8 @@ module _ (ss : List Single) (d : All SingleDuties ss) where
     pub each_admitted : Admitted (headed ss) c
     each_admitted = group_named_none ((headed ss).refused c) (at_most_one (length ss) c) ok
 
-    at_most_one : count (length ss) (λ k. taken (c k)) ≤ 1
-    at_most_one = leb-true (count (length ss) (λ k. taken (c k))) 1 (group_named_own ((headed ss).refused c) (at_most_one (length ss) c) ok)
+    one_at_most : count (length ss) (λ k. taken (c k)) ≤ 1
+    one_at_most = leb-true (count (length ss) (λ k. taken (c k))) 1 (group_named_own ((headed ss).refused c) (at_most_one (length ss) c) ok)
 
     members_admitted : Admitted (members ss) c
     unfolding members
@@ -258,7 +258,7 @@ module _ (ss : List Single) (d : All SingleDuties ss) where
 
   group_greatest : Greatest (exclusive ss)
   group_greatest = record {
-    above = λ p quoted c fits ok. subst (λ x. x ≤ℤ largest ss p) (sym (headed_surplus c p)) (at_most ss d p c (subst (λ k. Table k c) headed_cells fits) (members_admitted c ok) (at_most_one c ok));
+    above = λ p quoted c fits ok. subst (λ x. x ≤ℤ largest ss p) (sym (headed_surplus c p)) (at_most ss d p c (subst (λ k. Table k c) headed_cells fits) (members_admitted c ok) (one_at_most c ok));
     reached = λ p quoted.
         let u = reach ss d p in
         record {

@@ -13,24 +13,24 @@ pub loop-row-init : goal.loop-row-init
 unfolding checked decoded
 loop-row-init c = rw c.begin-s.ensures (length c.args.text.now, omega arith, omega arith, refl)
 
-pub returns-in-err-row : goal.returns-in-err-row
-returns-in-err-row c =
+pub returns-in_err-row : goal.returns-in_err-row
+returns-in_err-row c =
     let p = err_from_is_err_and c.from-residual.result c.from-residual.ensures.1 in
-    let e : step_of c.loop-row.s c.loop-row.rest.now ≡ Err (told_book c.in-err-row.field-0.0) = sym c.step.ensures ∙ ap (heard told_book) c.in-err-row.was in
-    let q = reads_fault c.loop-row.invariant.0 c.loop-row.s c.loop-row.rest.now (told_book c.in-err-row.field-0.0) e c.loop-row.invariant.1 in
+    let e : step_of c.loop-row.s c.loop-row.rest.now ≡ Err (told_book c.in_err-row.field-0.0) = sym c.step.ensures ∙ ap (heard told_book) c.in_err-row.was in
+    let q = reads_fault c.loop-row.invariant.0 c.loop-row.s c.loop-row.rest.now (told_book c.in_err-row.field-0.0) e c.loop-row.invariant.1 in
     ap (heard told_book) (p.1 ∙ ap Err p.2) ∙ sym (ap ends q) ∙ c.loop-row.invariant.3
 
 took : (c : goal.After-size) → step_of c.loop-row.s c.loop-row.rest.now ≡ Ok (Some (c.in-Some.row, c.in-Some.next))
-took c = sym c.step.ensures ∙ ap (heard told_book) (c.in-ok-row.was ∙ ap Ok c.in-Some.is)
+took c = sym c.step.ensures ∙ ap (heard told_book) (c.in_ok-row.was ∙ ap Ok c.in-Some.is)
 
 fits : (c : goal.After-size) → c.size.result ≤ length c.loop-row.rest.now
 fits c = let m = (step_moves c.loop-row.s c.loop-row.rest.now c.in-Some.row c.in-Some.next (took c)).fits in omega (arith, c.size.ensures)
 
-pub slice-bounds-rest-count : goal.slice-bounds-rest-count
-slice-bounds-rest-count c = fits c
+pub slice_bounds-rest-count : goal.slice_bounds-rest-count
+slice_bounds-rest-count c = fits c
 
-pub slice-bounds-rest-start : goal.slice-bounds-rest-start
-slice-bounds-rest-start c = let h = fits c in search rules
+pub slice_bounds-rest-start : goal.slice_bounds-rest-start
+slice_bounds-rest-start c = let h = fits c in search rules
 
 pub loop-row-smaller : goal.loop-row-smaller
 loop-row-smaller c = let d = (goal.at.loop-row-smaller c).After-size in let h = fits d in let k = row_has d.in-Some.row in rw (take_rest d.loop-row.rest.now d.size.result) (omega (arith, d.size.ensures, length-drop d.size.result d.loop-row.rest.now))
@@ -45,6 +45,6 @@ loop-row-preserved c =
 
 pub returns : goal.returns
 returns c =
-    let e : step_of c.loop-row.s c.loop-row.rest.now ≡ Ok None = sym c.step.ensures ∙ ap (heard told_book) (c.in-ok-row.was ∙ ap Ok c.in-default.is) in
+    let e : step_of c.loop-row.s c.loop-row.rest.now ≡ Ok None = sym c.step.ensures ∙ ap (heard told_book) (c.in_ok-row.was ∙ ap Ok c.in_default.is) in
     let q = reads_seal c.loop-row.invariant.0 c.loop-row.s c.loop-row.rest.now e c.loop-row.invariant.1 in
     sym (ap ends q) ∙ c.loop-row.invariant.3

@@ -10,17 +10,17 @@ use Rattle.bid.proofs.lawful.Bid.maxima.Goals as goal
 most_fits : (b : Bid) (t : ℕ) → t < 4 → SFits w32 (most b.fields t)
 most_fits b t l = let h = (fine_quarters b.fields.quarters b.fine t l).few in omega (arith, ints)
 
-pub overflow-cast-result : goal.overflow-cast-result
-overflow-cast-result c = most_fits c.args.self.now 0 (lit< tt)
+pub overflow_cast-result : goal.overflow_cast-result
+overflow_cast-result c = most_fits c.args.self.now 0 (lit< tt)
 
-pub overflow-cast-result-2 : goal.overflow-cast-result-2
-overflow-cast-result-2 c = most_fits c.args.self.now 1 (lit< tt)
+pub overflow_cast-result-2 : goal.overflow_cast-result-2
+overflow_cast-result-2 c = most_fits c.args.self.now 1 (lit< tt)
 
-pub overflow-cast-result-3 : goal.overflow-cast-result-3
-overflow-cast-result-3 c = most_fits c.args.self.now 2 (lit< tt)
+pub overflow_cast-result-3 : goal.overflow_cast-result-3
+overflow_cast-result-3 c = most_fits c.args.self.now 2 (lit< tt)
 
-pub overflow-cast-result-4 : goal.overflow-cast-result-4
-overflow-cast-result-4 c = most_fits c.args.self.now 3 (lit< tt)
+pub overflow_cast-result-4 : goal.overflow_cast-result-4
+overflow_cast-result-4 c = most_fits c.args.self.now 3 (lit< tt)
 
 pub returns : goal.returns
 returns c =

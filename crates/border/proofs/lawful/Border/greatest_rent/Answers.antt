@@ -16,8 +16,8 @@ add_four-requires c =
       ),
     )
 
-pub overflow-add-result : goal.overflow-add-result
-overflow-add-result c =
+pub overflow_add-result : goal.overflow_add-result
+overflow_add-result c =
     let x = c.args.self.now in
     let b = c.args.prices.bytes.now in
     two_fit x b c.requires

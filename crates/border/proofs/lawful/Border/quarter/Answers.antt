@@ -7,8 +7,8 @@ price-first-requires c = (c.requires.quarter, ((lawful_fields c.args.self.now).f
 pub price-second-requires : goal.price-second-requires
 price-second-requires c = (c.requires.quarter, ((lawful_fields c.args.self.now).second, c.requires.priced.long))
 
-pub overflow-sub-result : goal.overflow-sub-result
-overflow-sub-result c = gap_fits c.args.self.now c.args.prices.bytes.now c.requires.priced c.args.quarter c.requires.quarter c.price-first.result c.price-second.result c.price-first.ensures c.price-second.ensures
+pub overflow_sub-result : goal.overflow_sub-result
+overflow_sub-result c = gap_fits c.args.self.now c.args.prices.bytes.now c.requires.priced c.args.quarter c.requires.quarter c.price-first.result c.price-second.result c.price-first.ensures c.price-second.ensures
 
 pub returns : goal.returns
 returns c = quarter_is c.args.self.now c.args.prices.bytes.now c.requires.priced c.args.quarter c.requires.quarter c.price-first.result c.price-second.result c.price-first.ensures c.price-second.ensures

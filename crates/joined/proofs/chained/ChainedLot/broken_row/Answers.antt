@@ -13,8 +13,8 @@ front_part-requires g c = asks c.split-lot.ensures.step c.walk.invariant.asked.s
 pub broken_row-requires : goal.broken_row-requires
 broken_row-requires g c = record { ready = first_ready c.split-lot.ensures.step c.front_part.ensures c.walk.invariant.asked; priced = c.requires.priced }
 
-pub overflow-add-result : goal.overflow-add-result
-overflow-add-result g c =
+pub overflow_add-result : goal.overflow_add-result
+overflow_add-result g c =
     let below = passing_below (breaks _ (priced_quoted _ c.requires.priced)) c.split-lot.ensures.step c.walk.invariant c.front_part.ensures _ c.broken_row.ensures _ c.in-Some.is in
     let few = c.requires.ready.sized.few in
     omega arith
@@ -26,7 +26,7 @@ pub rest_part-rest-requires : goal.rest_part-rest-requires
 rest_part-rest-requires g c = asks c.split-lot.ensures.step c.walk.invariant.asked.sized
 
 pub walk-preserved : goal.walk-preserved
-walk-preserved g c = passing_next (breaks _ (priced_quoted _ c.requires.priced)) c.split-lot.ensures.step c.walk.invariant c.front_part.ensures _ c.broken_row.ensures c.in-default.is c.rest_part-rest.ensures _ c.row_count-passed.ensures
+walk-preserved g c = passing_next (breaks _ (priced_quoted _ c.requires.priced)) c.split-lot.ensures.step c.walk.invariant c.front_part.ensures _ c.broken_row.ensures c.in_default.is c.rest_part-rest.ensures _ c.row_count-passed.ensures
 
 pub returns : goal.returns
 returns g c = passing_end (breaks _ (priced_quoted _ c.requires.priced)) c.walk.invariant (g.C.Chain.ends _ (omega arith))

@@ -12,8 +12,8 @@ front_part-requires g c = asks c.split-lot.ensures.step c.walk.invariant.asked
 pub refused_row-requires : goal.refused_row-requires
 refused_row-requires g c = first_sized c.split-lot.ensures.step c.front_part.ensures c.walk.invariant.asked
 
-pub overflow-add-result : goal.overflow-add-result
-overflow-add-result g c =
+pub overflow_add-result : goal.overflow_add-result
+overflow_add-result g c =
     let below = passing_below refusals c.split-lot.ensures.step c.walk.invariant c.front_part.ensures _ c.refused_row.ensures _ c.in-Some.is in
     let few = c.requires.few in
     omega arith
@@ -25,7 +25,7 @@ pub rest_part-rest-requires : goal.rest_part-rest-requires
 rest_part-rest-requires g c = asks c.split-lot.ensures.step c.walk.invariant.asked
 
 pub walk-preserved : goal.walk-preserved
-walk-preserved g c = passing_next refusals c.split-lot.ensures.step c.walk.invariant c.front_part.ensures _ c.refused_row.ensures c.in-default.is c.rest_part-rest.ensures _ c.row_count-passed.ensures
+walk-preserved g c = passing_next refusals c.split-lot.ensures.step c.walk.invariant c.front_part.ensures _ c.refused_row.ensures c.in_default.is c.rest_part-rest.ensures _ c.row_count-passed.ensures
 
 pub returns : goal.returns
 returns g c = passing_end refusals c.walk.invariant (g.C.Chain.ends _ (omega arith))

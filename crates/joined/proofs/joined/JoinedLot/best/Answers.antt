@@ -6,8 +6,8 @@ use Rattle.lot.proofs.Limits.{best_low}
 use Rattle.lot.proofs.Bundled.{duties_of}
 use Rattle.joined.proofs.joined.JoinedLot.best.Goals as goal
 
-pub overflow-add-result : goal.overflow-add-result
-overflow-add-result g c =
+pub overflow_add-result : goal.overflow_add-result
+overflow_add-result g c =
     let m = g.A.Lot.meaning c.args.self.now.0 in
     let n = g.B.Lot.meaning c.args.self.now.1 in
     let p = table_of c.args.prices.bytes.now in
@@ -22,4 +22,4 @@ overflow-add-result g c =
     omega (arith, ints)
 
 pub returns : goal.returns
-returns g c = let fits = overflow-add-result g c in omega (arith, ints)
+returns g c = let fits = overflow_add-result g c in omega (arith, ints)

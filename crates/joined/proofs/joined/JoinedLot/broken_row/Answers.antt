@@ -18,14 +18,14 @@ rest_part-requires g c = asks (both g.A.Lot g.B.Lot c.args.self.now.0 c.args.sel
 pub broken_row-requires-2 : goal.broken_row-requires-2
 broken_row-requires-2 g c = record { ready = next_ready (both g.A.Lot g.B.Lot c.args.self.now.0 c.args.self.now.1) c.rest_part.ensures c.requires.ready; priced = c.requires.priced }
 
-pub overflow-add-result : goal.overflow-add-result
-overflow-add-result g c =
-    let below = named_below (breaks _ (priced_quoted _ c.requires.priced)) (both g.A.Lot g.B.Lot c.args.self.now.0 c.args.self.now.1) c.args.cells.bytes.now _ c.front_part.ensures _ c.broken_row.ensures c.in-default.is _ c.rest_part.ensures _ c.broken_row-2.ensures c.requires.ready _ c.in-Some-broken_row.is in
+pub overflow_add-result : goal.overflow_add-result
+overflow_add-result g c =
+    let below = named_below (breaks _ (priced_quoted _ c.requires.priced)) (both g.A.Lot g.B.Lot c.args.self.now.0 c.args.self.now.1) c.args.cells.bytes.now _ c.front_part.ensures _ c.broken_row.ensures c.in_default.is _ c.rest_part.ensures _ c.broken_row-2.ensures c.requires.ready _ c.in-Some-broken_row.is in
     let few = c.requires.ready.sized.few in
     omega arith
 
 pub returns-in-Some-broken_row : goal.returns-in-Some-broken_row
-returns-in-Some-broken_row g c = named_second (breaks _ (priced_quoted _ c.requires.priced)) (both g.A.Lot g.B.Lot c.args.self.now.0 c.args.self.now.1) c.args.cells.bytes.now _ c.front_part.ensures _ c.broken_row.ensures c.in-default.is _ c.rest_part.ensures _ c.broken_row-2.ensures c.requires.ready _ c.in-Some-broken_row.is _ c.row_count.ensures
+returns-in-Some-broken_row g c = named_second (breaks _ (priced_quoted _ c.requires.priced)) (both g.A.Lot g.B.Lot c.args.self.now.0 c.args.self.now.1) c.args.cells.bytes.now _ c.front_part.ensures _ c.broken_row.ensures c.in_default.is _ c.rest_part.ensures _ c.broken_row-2.ensures c.requires.ready _ c.in-Some-broken_row.is _ c.row_count.ensures
 
 pub returns-in-None : goal.returns-in-None
-returns-in-None g c = named_neither (breaks _ (priced_quoted _ c.requires.priced)) (both g.A.Lot g.B.Lot c.args.self.now.0 c.args.self.now.1) c.args.cells.bytes.now _ c.front_part.ensures _ c.broken_row.ensures c.in-default.is _ c.rest_part.ensures _ c.broken_row-2.ensures c.in-None.is
+returns-in-None g c = named_neither (breaks _ (priced_quoted _ c.requires.priced)) (both g.A.Lot g.B.Lot c.args.self.now.0 c.args.self.now.1) c.args.cells.bytes.now _ c.front_part.ensures _ c.broken_row.ensures c.in_default.is _ c.rest_part.ensures _ c.broken_row-2.ensures c.in-None.is

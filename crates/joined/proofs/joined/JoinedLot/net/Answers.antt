@@ -17,8 +17,8 @@ rest_part-requires g c = asks (both g.A.Lot g.B.Lot c.args.self.now.0 c.args.sel
 pub net-requires-2 : goal.net-requires-2
 net-requires-2 g c = record { ready = next_ready (both g.A.Lot g.B.Lot c.args.self.now.0 c.args.self.now.1) c.rest_part.ensures c.requires.ready; area = c.requires.area; quarter = c.requires.quarter }
 
-pub overflow-add-result : goal.overflow-add-result
-overflow-add-result g c =
+pub overflow_add-result : goal.overflow_add-result
+overflow_add-result g c =
     let e = both g.A.Lot g.B.Lot c.args.self.now.0 c.args.self.now.1 in
     let few = c.requires.ready.sized.few in
     let size = rows_of_lem e in
@@ -30,7 +30,7 @@ overflow-add-result g c =
 
 pub returns : goal.returns
 returns g c =
-    let fits = overflow-add-result g c in
+    let fits = overflow_add-result g c in
     let em = c.net.ensures in
     let en = c.net-2.ensures in
     let e = net_of_lem (both g.A.Lot g.B.Lot c.args.self.now.0 c.args.self.now.1) c.args.cells.bytes.now _ _ c.front_part.ensures c.rest_part.ensures c.args.area c.args.quarter in

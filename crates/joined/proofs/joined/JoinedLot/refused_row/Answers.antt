@@ -17,14 +17,14 @@ rest_part-requires g c = asks (both g.A.Lot g.B.Lot c.args.self.now.0 c.args.sel
 pub refused_row-requires-2 : goal.refused_row-requires-2
 refused_row-requires-2 g c = next_sized (both g.A.Lot g.B.Lot c.args.self.now.0 c.args.self.now.1) c.rest_part.ensures c.requires
 
-pub overflow-add-result : goal.overflow-add-result
-overflow-add-result g c =
-    let below = named_below refusals (both g.A.Lot g.B.Lot c.args.self.now.0 c.args.self.now.1) c.args.cells.bytes.now _ c.front_part.ensures _ c.refused_row.ensures c.in-default.is _ c.rest_part.ensures _ c.refused_row-2.ensures c.requires _ c.in-Some-refused_row.is in
+pub overflow_add-result : goal.overflow_add-result
+overflow_add-result g c =
+    let below = named_below refusals (both g.A.Lot g.B.Lot c.args.self.now.0 c.args.self.now.1) c.args.cells.bytes.now _ c.front_part.ensures _ c.refused_row.ensures c.in_default.is _ c.rest_part.ensures _ c.refused_row-2.ensures c.requires _ c.in-Some-refused_row.is in
     let few = c.requires.few in
     omega arith
 
 pub returns-in-Some-refused_row : goal.returns-in-Some-refused_row
-returns-in-Some-refused_row g c = named_second refusals (both g.A.Lot g.B.Lot c.args.self.now.0 c.args.self.now.1) c.args.cells.bytes.now _ c.front_part.ensures _ c.refused_row.ensures c.in-default.is _ c.rest_part.ensures _ c.refused_row-2.ensures c.requires _ c.in-Some-refused_row.is _ c.row_count.ensures
+returns-in-Some-refused_row g c = named_second refusals (both g.A.Lot g.B.Lot c.args.self.now.0 c.args.self.now.1) c.args.cells.bytes.now _ c.front_part.ensures _ c.refused_row.ensures c.in_default.is _ c.rest_part.ensures _ c.refused_row-2.ensures c.requires _ c.in-Some-refused_row.is _ c.row_count.ensures
 
 pub returns-in-None : goal.returns-in-None
-returns-in-None g c = named_neither refusals (both g.A.Lot g.B.Lot c.args.self.now.0 c.args.self.now.1) c.args.cells.bytes.now _ c.front_part.ensures _ c.refused_row.ensures c.in-default.is _ c.rest_part.ensures _ c.refused_row-2.ensures c.in-None.is
+returns-in-None g c = named_neither refusals (both g.A.Lot g.B.Lot c.args.self.now.0 c.args.self.now.1) c.args.cells.bytes.now _ c.front_part.ensures _ c.refused_row.ensures c.in_default.is _ c.rest_part.ensures _ c.refused_row-2.ensures c.in-None.is

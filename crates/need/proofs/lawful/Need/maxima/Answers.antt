@@ -5,17 +5,17 @@ use Rattle.need.specs.Needing.{wanted}
 use Rattle.need.proofs.Trades.{few, wanted_fits}
 use Rattle.need.proofs.lawful.Need.maxima.Goals as goal
 
-pub overflow-cast-result : goal.overflow-cast-result
-overflow-cast-result c = wanted_fits c.args.self.now 0 (lit< tt)
+pub overflow_cast-result : goal.overflow_cast-result
+overflow_cast-result c = wanted_fits c.args.self.now 0 (lit< tt)
 
-pub overflow-cast-result-2 : goal.overflow-cast-result-2
-overflow-cast-result-2 c = wanted_fits c.args.self.now 1 (lit< tt)
+pub overflow_cast-result-2 : goal.overflow_cast-result-2
+overflow_cast-result-2 c = wanted_fits c.args.self.now 1 (lit< tt)
 
-pub overflow-cast-result-3 : goal.overflow-cast-result-3
-overflow-cast-result-3 c = wanted_fits c.args.self.now 2 (lit< tt)
+pub overflow_cast-result-3 : goal.overflow_cast-result-3
+overflow_cast-result-3 c = wanted_fits c.args.self.now 2 (lit< tt)
 
-pub overflow-cast-result-4 : goal.overflow-cast-result-4
-overflow-cast-result-4 c = wanted_fits c.args.self.now 3 (lit< tt)
+pub overflow_cast-result-4 : goal.overflow_cast-result-4
+overflow_cast-result-4 c = wanted_fits c.args.self.now 3 (lit< tt)
 
 pub returns : goal.returns
 returns c =

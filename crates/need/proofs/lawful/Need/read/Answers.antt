@@ -6,6 +6,6 @@ pub returns-in-Some-Some : goal.returns-in-Some-Some
 unfolding need_read
 returns-in-Some-Some c = search rules
 
-pub returns-in-default-2 : goal.returns-in-default-2
+pub returns-in_default-2 : goal.returns-in_default-2
 unfolding need_read
-returns-in-default-2 c = search rules
+returns-in_default-2 c = search rules

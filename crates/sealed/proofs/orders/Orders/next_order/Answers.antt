@@ -38,10 +38,10 @@ single_order-requires c =
     let x = c.args.self.rows in
     record {
       lawful = lawful_first c.next-row.result.0 _ (ap lawful_rows (sym c.next-row.ensures.ahead) ∙ x.lawful);
-      single = not_group c.next-row.result.0 c.in-default.not-Group;
+      single = not_group c.next-row.result.0 c.in_default.not-Group;
     }
 
-pub invariant-of-result-2 : goal.invariant-of-result-2
-invariant-of-result-2 c =
+pub invariant_of-result-2 : goal.invariant_of-result-2
+invariant_of-result-2 c =
     let x = c.args.self in
-    (stays_whole x.rows.stand c.next-row.result.0 c.next-row.result.1.stand c.next-row.ensures.after x.whole (not_group c.next-row.result.0 c.in-default.not-Group), tt)
+    (stays_whole x.rows.stand c.next-row.result.0 c.next-row.result.1.stand c.next-row.ensures.after x.whole (not_group c.next-row.result.0 c.in_default.not-Group), tt)

@@ -1,7 +1,7 @@
 use Rattle.std.proofs.Common.{◌≡◌, ℕ, ◌+◌, ◌-◌, ◌<◌, true, List, length, drop, sym, ap, ◌∙◌, subst, arith, length-drop}
 use Rattle.book.specs.Rows.{row_size}
 use Rattle.book.proofs.Steps.{step_moves}
-use Rattle.sealed.specs.Ahead.{reads_on_lem, ahead}
+use Rattle.sealed.specs.Ahead.{reads_on, ahead}
 use Rattle.sealed.specs.Lot.{lawful_rows}
 use Rattle.sealed.proofs.Turns.{on_reads, on_rows, lawful_rest}
 use Rattle.sealed.proofs.rows.Rows.behind.Goals as goal
@@ -13,15 +13,15 @@ from_place-requires c =
     let e = c.size.ensures in
     omega arith
 
-pub overflow-sub-result : goal.overflow-sub-result
-overflow-sub-result c =
+pub overflow_sub-result : goal.overflow_sub-result
+overflow_sub-result c =
     let x = c.args.self in
     let l = ap length (on_rows x.stand x.rest.now c.args.row.now c.args.next c.requires x.sound) in
     let k = x.count in
     omega arith
 
-pub invariant-of-result : goal.invariant-of-result
-invariant-of-result c =
+pub invariant_of-result : goal.invariant_of-result
+invariant_of-result c =
     let x = c.args.self in
     let t = x.rest.now in
     let r = c.args.row.now in

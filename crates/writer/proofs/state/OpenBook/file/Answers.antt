@@ -9,11 +9,11 @@ use Rattle.writer.proofs.state.OpenBook.file.Goals as goal
 pub write-requires : goal.write-requires
 write-requires c = let k = took (length c.args.text.now) c.args.self.length c.args.self.rows c.args.row (row_of c.in-Ok.lawful) c.in-Ok.ensures in omega (arith, k.room, k.size)
 
-pub overflow-add-book : goal.overflow-add-book
-overflow-add-book c = let k = took (length c.args.text.now) c.args.self.length c.args.self.rows c.args.row (row_of c.in-Ok.lawful) c.in-Ok.ensures in omega (arith, k.room, c.size.ensures)
+pub overflow_add-book : goal.overflow_add-book
+overflow_add-book c = let k = took (length c.args.text.now) c.args.self.length c.args.self.rows c.args.row (row_of c.in-Ok.lawful) c.in-Ok.ensures in omega (arith, k.room, c.size.ensures)
 
-pub overflow-add-book-in-Ok : goal.overflow-add-book-in-Ok
-overflow-add-book-in-Ok c = let k = took (length c.args.text.now) c.args.self.length c.args.self.rows c.args.row (row_of c.in-Ok.lawful) c.in-Ok.ensures in omega (arith, k.few)
+pub overflow_add-book-in-Ok : goal.overflow_add-book-in-Ok
+overflow_add-book-in-Ok c = let k = took (length c.args.text.now) c.args.self.length c.args.self.rows c.args.row (row_of c.in-Ok.lawful) c.in-Ok.ensures in omega (arith, k.few)
 
 pub returns-in-Ok : goal.returns-in-Ok
 returns-in-Ok c =

@@ -13,11 +13,11 @@ use Rattle.writer.proofs.state.OpenBook.group.Goals as goal
 pub write-requires : goal.write-requires
 write-requires c = let k = took (length c.args.text.now) c.args.self.length c.args.self.rows (kind.Group c.args.members) (row_of c.in-Ok.lawful) c.in-Ok.ensures in omega (arith, k.room, k.size)
 
-pub overflow-add-group : goal.overflow-add-group
-overflow-add-group c = let k = took (length c.args.text.now) c.args.self.length c.args.self.rows (kind.Group c.args.members) (row_of c.in-Ok.lawful) c.in-Ok.ensures in omega (arith, k.room)
+pub overflow_add-group : goal.overflow_add-group
+overflow_add-group c = let k = took (length c.args.text.now) c.args.self.length c.args.self.rows (kind.Group c.args.members) (row_of c.in-Ok.lawful) c.in-Ok.ensures in omega (arith, k.room)
 
-pub overflow-add-group-in-Ok : goal.overflow-add-group-in-Ok
-overflow-add-group-in-Ok c = let k = took (length c.args.text.now) c.args.self.length c.args.self.rows (kind.Group c.args.members) (row_of c.in-Ok.lawful) c.in-Ok.ensures in omega (arith, k.few)
+pub overflow_add-group-in-Ok : goal.overflow_add-group-in-Ok
+overflow_add-group-in-Ok c = let k = took (length c.args.text.now) c.args.self.length c.args.self.rows (kind.Group c.args.members) (row_of c.in-Ok.lawful) c.in-Ok.ensures in omega (arith, k.few)
 
 pub returns-in-Ok : goal.returns-in-Ok
 returns-in-Ok c =

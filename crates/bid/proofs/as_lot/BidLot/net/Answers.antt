@@ -1,0 +1,27 @@
+use Rattle.std.proofs.Common.{◌≡◌, cond, eqb, pos, ap, ◌∙◌, ap₂, lit<, w32, w64, to_z, of_z, rules}
+use Rattle.std.proofs.lemmas.Int.{to_z-of_z}
+use Rattle.units.specs.Side.{is_upward}
+use Rattle.lot.specs.Page.{table_of}
+use Rattle.lot.specs.Trade.{turned}
+use Rattle.lot.specs.Direction.{sells}
+use Rattle.lot.proofs.Terms.{towards_sells}
+use Rattle.lot.proofs.Alone.{alone_long, alone_net, cell_small}
+use Rattle.bid.specs.Bidding.{bidding}
+use Rattle.bid.proofs.Trades.{cells_small}
+use Rattle.bid.proofs.as_lot.BidLot.net.Goals as goal
+
+pub cell-requires : goal.cell-requires
+cell-requires c = (c.requires.quarter, alone_long (bidding c.args.self.now.fields) c.args.cells.bytes.now c.requires.ready.sized)
+
+pub net-requires : goal.net-requires
+net-requires c = cell_small (cells_small c.args.self.now c.args.cells.bytes.now c.requires.ready c.args.quarter c.requires.quarter) c.cell.ensures (lit< tt)
+
+pub returns : goal.returns
+returns c =
+    let f = c.args.self.now.fields in
+    let k = c.args.cells.bytes.now in
+    let same : to_z w32 (of_z w32 c.cell.result) ≡ table_of k 0 c.args.quarter = to_z-of_z w32 c.cell.result (search rules) ∙ c.cell.ensures in
+    to_z-of_z w64 c.net.result (search rules)
+    ∙ alone_net (bidding f) k c.args.area c.args.quarter c.net.result
+    (c.net.ensures ∙ ap₂ (λ d z. cond (eqb c.args.area f.area) (turned (sells d) z) (pos 0)) c.direction.ensures same
+    ∙ ap (λ s. cond (eqb c.args.area f.area) (turned s (table_of k 0 c.args.quarter)) (pos 0)) (towards_sells (is_upward f.side)))

@@ -1,7 +1,0 @@
-use Rattle.std.proofs.Common.{rules}
-use Rattle.lot.specs.Sum.{count}
-use Rattle.border.proofs.lot.BorderLot.cell_row_count.Goals as goal
-
-pub returns : goal.returns
-unfolding count
-returns c = search rules

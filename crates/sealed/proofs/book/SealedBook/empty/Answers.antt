@@ -1,8 +1,0 @@
-use Rattle.std.proofs.Common.{ap}
-use Rattle.sealed.specs.Book.{passes, found_in}
-use Rattle.sealed.proofs.Rest.{seal_checks}
-use Rattle.sealed.proofs.Turns.{seal_lawful}
-use Rattle.sealed.proofs.book.SealedBook.empty.Goals as goal
-
-pub invariant-of-result : goal.invariant-of-result
-invariant-of-result c = (ap passes seal_checks, (ap found_in seal_checks, (seal_lawful, tt)))

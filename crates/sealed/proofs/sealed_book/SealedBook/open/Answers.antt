@@ -1,0 +1,11 @@
+use Rattle.std.proofs.Common.{◌≡◌, Ok, sym, ap}
+use Rattle.book.specs.Reading.{checked, rows_in}
+use Rattle.sealed.specs.Book.{passes, found_in, sealed_or}
+use Rattle.sealed.proofs.Turns.{written_lawful}
+use Rattle.sealed.proofs.sealed_book.SealedBook.open.Goals as goal
+
+pub invariant_of-result : goal.invariant_of-result
+invariant_of-result c =
+    let t = c.args.text.now in
+    let e : checked t ≡ Ok c.in-Ok.found = sym c.in-Ok.ensures.found in
+    (ap passes e, (ap found_in e, (written_lawful t c.in-Ok.found.length (rows_in t) c.in-Ok.ensures.written, tt)))

@@ -1,0 +1,89 @@
+ghost use Rattle.std.specs.Prelude.{◌≡◌};
+ghost use Rattle.book.specs.Reading.{rows_in};
+ghost use Rattle.sealed.specs.Ahead.{ahead};
+ghost use Rattle.sealed.specs.Lot.{book_meaning};
+ghost use Rattle.sealed.specs.Laws.Books.{book_duties, orders_end};
+
+use crate::sealed_book::SealedBook;
+use crate::orders::Orders;
+use joined::chain::Chain;
+use joined::chained::Chained;
+use lot::lot::Lot;
+use lot::views::{Cells, Prices};
+use order::order::Order;
+
+impl<'a> Chain for Orders<'a> {
+    type Link = Order;
+
+    ghost meaning = { λ x. book_meaning (ahead x.rows.stand x.rows.rest.now) };
+
+    ghost left = { λ x. x.rows.left };
+
+    ghost ends = { λ x. orders_end (ahead x.rows.stand x.rows.rest.now) x.rows.left x.rows.count };
+
+    ghost duties = { λ x. book_duties (ahead x.rows.stand x.rows.rest.now) x.rows.lawful };
+
+    fn left(&self) -> usize {
+        self.rows.left
+    }
+
+    fn split(self) -> (Order, Orders<'a>) {
+        self.next_order()
+    }
+}
+
+impl<'a> SealedBook<'a> {
+    // The orders of the book, one after another.
+    fn orders(self) -> Chained<Orders<'a>>
+        ensures { ahead result.0.rows.stand result.0.rows.rest.now ≡ rows_in self.entry.text.now }
+    {
+        Chained(Orders { rows: self.all() })
+    }
+}
+
+// A sealed book is a lot: its rows joined in order, decoded where they lie.
+impl<'a> Lot for SealedBook<'a> {
+    ghost meaning = { λ x. book_meaning (rows_in x.text.now) };
+
+    ghost idle = { λ x. (book_duties (rows_in x.text.now) x.lawful).idle };
+
+    ghost greatest = { λ x. (book_duties (rows_in x.text.now) x.lawful).greatest };
+
+    ghost settled = { λ x. (book_duties (rows_in x.text.now) x.lawful).settled };
+
+    ghost unharmed = { λ x. (book_duties (rows_in x.text.now) x.lawful).unharmed };
+
+    ghost limited = { λ x. (book_duties (rows_in x.text.now) x.lawful).limited };
+
+    fn row_count(&self) -> usize {
+        self.orders().row_count()
+    }
+
+    fn cell_row_count(&self) -> usize {
+        self.orders().cell_row_count()
+    }
+
+    fn refused_row(&self, cells: Cells<'_>) -> Option<usize> {
+        self.orders().refused_row(cells)
+    }
+
+    fn net(&self, cells: Cells<'_>, area: usize, quarter: usize) -> i64 {
+        self.orders().net(cells, area, quarter)
+    }
+
+    fn worth(&self, cells: Cells<'_>, row: usize) -> i64 {
+        self.orders().worth(cells, row)
+    }
+
+    fn amount(&self, cells: Cells<'_>, prices: Prices<'_>, row: usize) -> i64 {
+        self.orders().amount(cells, prices, row)
+    }
+
+    fn best(&self, prices: Prices<'_>) -> i64 {
+        self.orders().best(prices)
+    }
+
+    fn broken_row(&self, cells: Cells<'_>, prices: Prices<'_>) -> Option<usize> {
+        self.orders().broken_row(cells, prices)
+    }
+}
