@@ -6,7 +6,7 @@ pub add_four-requires : goal.add_four-requires
 add_four-requires c =
     let x = c.args.self.now in
     let b = c.args.prices.bytes.now in (
-      rented_small x b c.requires (rented_quarter x b c.requires 0 (lit< tt) c.quarter.ensures c.best_first.ensures),
+      rented_small x b c.requires (rented_quarter x b c.requires 0 (lit< tt) c.quarter.ensures c.best-first.ensures),
       (
         rented_small x b c.requires (rented_quarter x b c.requires 1 (lit< tt) c.quarter-in-One.ensures c.best-second.ensures),
         (
@@ -29,7 +29,7 @@ returns-in-One c =
     let x = c.args.self.now in
     let b = c.args.prices.bytes.now in
     rents_in_one x b c.requires c.in-One.is
-    (rented_quarter x b c.requires 0 (lit< tt) c.quarter.ensures c.best_first.ensures)
+    (rented_quarter x b c.requires 0 (lit< tt) c.quarter.ensures c.best-first.ensures)
     (rented_quarter x b c.requires 1 (lit< tt) c.quarter-in-One.ensures c.best-second.ensures)
     (rented_quarter x b c.requires 2 (lit< tt) c.quarter-in-One-2.ensures c.best-third.ensures)
     (rented_quarter x b c.requires 3 (lit< tt) c.quarter-in-One-3.ensures c.best-fourth.ensures)
