@@ -15,7 +15,7 @@ loop-row-init c = rw c.begin-s.ensures (length c.args.text.now, omega arith, ome
 
 pub returns-in_err-row : goal.returns-in_err-row
 returns-in_err-row c =
-    let p = err_from_is_err_and c.from-residual.result c.from-residual.ensures.1 in
+    let p = err_from_is_err_and c.from_residual.result c.from_residual.ensures.1 in
     let e : step_of c.loop-row.s c.loop-row.rest.now ≡ Err (told_book c.in_err-row.field-0.0) = sym c.step.ensures ∙ ap (heard told_book) c.in_err-row.was in
     let q = reads_fault c.loop-row.invariant.0 c.loop-row.s c.loop-row.rest.now (told_book c.in_err-row.field-0.0) e c.loop-row.invariant.1 in
     ap (heard told_book) (p.1 ∙ ap Err p.2) ∙ sym (ap ends q) ∙ c.loop-row.invariant.3

@@ -11,7 +11,7 @@ use Rattle.book.proofs.step.step.Goals as goal
 pub returns-in_err-command : goal.returns-in_err-command
 unfolding step_of
 returns-in_err-command c =
-    let p = err_from_is_err_and c.from-residual.result c.from-residual.ensures.1 in
+    let p = err_from_is_err_and c.from_residual.result c.from_residual.ensures.1 in
     let e : command_at c.args.s.at c.args.text.now ≡ Err (told_byte c.in_err-command.field-0.0) = sym c.at.ensures ∙ ap (heard told_byte) c.in_err-command.was in
     rw e (ap (heard told_book) (p.1 ∙ ap Err p.2))
 
@@ -36,7 +36,7 @@ returns-then-s-ge-MOST_ROWS c =
 pub returns-in_err-row : goal.returns-in_err-row
 unfolding step_of
 returns-in_err-row c =
-    let p = err_from_is_err_and c.from-residual-in_err-row.result c.from-residual-in_err-row.ensures.1 in
+    let p = err_from_is_err_and c.from_residual-in_err-row.result c.from_residual-in_err-row.ensures.1 in
     let e : command_at c.args.s.at c.args.text.now ≡ Ok c.in_ok-command.command = sym c.at.ensures ∙ ap (heard told_byte) c.in_ok-command.was in
     let f : row_read c.in_ok-command.command c.args.s.rows c.args.text.now ≡ Err (told_book c.in_err-row.field-0.0) = sym c.row.ensures ∙ ap (heard told_book) c.in_err-row.was in
     rw (e, f) (search rules)

@@ -16,13 +16,13 @@ returns-then-rows-ge-MOST_ROWS c = search rules
 
 pub returns-in_err-lawful : goal.returns-in_err-lawful
 returns-in_err-lawful c =
-    let p = err_from_is_err_and c.from-residual.result c.from-residual.ensures.1 in
+    let p = err_from_is_err_and c.from_residual.result c.from_residual.ensures.1 in
     ap (λ (r : Result LawfulRow BookFault). heard told_book (row_in r)) (p.1 ∙ ap Err p.2)
     ∙ sym (unlawful c.args.len c.args.at c.args.rows c.args.row (told_book c.in_err-lawful.field-0.0) c.if-rows-ge-MOST_ROWS.false (sym c.in_err-lawful.ensures))
 
 pub returns-in_err-room : goal.returns-in_err-room
 returns-in_err-room c =
-    let p = err_from_is_err_and c.from-residual-in_err-room.result c.from-residual-in_err-room.ensures.1 in
+    let p = err_from_is_err_and c.from_residual-in_err-room.result c.from_residual-in_err-room.ensures.1 in
     ap (λ (r : Result LawfulRow BookFault). heard told_book (row_in r)) (p.1 ∙ ap Err p.2)
     ∙ sym (short c.args.len c.args.at c.args.rows c.args.row (Some (row_of c.in_ok-lawful.lawful)) (told_book c.in_err-room.field-0.0) c.if-rows-ge-MOST_ROWS.false (sym c.in_ok-lawful.ensures) (ap (λ (n : ℕ). roomed c.args.len c.args.at c.args.rows n) (sym c.size.ensures) ∙ sym c.in_err-room.ensures))
 
