@@ -9,33 +9,33 @@ use Rattle.book.specs.declared.row.Row.TheVariants as kind
 use Rattle.sealed.specs.Lot.{bid, need, border, is_group, lawful_row}
 use Rattle.sealed.proofs.Turns.{refused_lawful, no_member}
 use Rattle.sealed.proofs.Splitting.{row_parts, filed_bid, filed_need, filed_border}
-use Rattle.sealed.proofs.split.single_order.Goals as owed
+use Rattle.sealed.proofs.split.single_order.Goals as goal
 
-pub unreachable_requires : owed.unreachable-requires
-unreachable_requires c = let f = c.in-Bid.fields in refused_lawful _ (is_area f.area) (bid_fine f.quarters) f (c.in-Err.ensures 0) (ap lawful_row (sym c.in-Bid.is) ∙ c.requires.lawful)
+pub unreachable-requires : goal.unreachable-requires
+unreachable-requires c = let f = c.in-Bid.fields in refused_lawful _ (is_area f.area) (bid_fine f.quarters) f (c.in-Err.ensures 0) (ap lawful_row (sym c.in-Bid.is) ∙ c.requires.lawful)
 
-pub unreachable_requires_in_Err_of : owed.unreachable-requires-in-Err-of
-unreachable_requires_in_Err_of c = let f = c.in-Need.fields in refused_lawful _ (is_area f.area) (need_fine f.elasticity f.quarters) f (c.in-Err-of.ensures 0) (ap lawful_row (sym c.in-Need.is) ∙ c.requires.lawful)
+pub unreachable-requires-in-Err-of : goal.unreachable-requires-in-Err-of
+unreachable-requires-in-Err-of c = let f = c.in-Need.fields in refused_lawful _ (is_area f.area) (need_fine f.elasticity f.quarters) f (c.in-Err-of.ensures 0) (ap lawful_row (sym c.in-Need.is) ∙ c.requires.lawful)
 
-pub unreachable_requires_in_Err_of_2 : owed.unreachable-requires-in-Err-of-2
-unreachable_requires_in_Err_of_2 c = let f = c.in-Border.fields in refused_lawful _ (border_placed f.from f.to) (border_fine f.quarters) f (c.in-Err-of-2.ensures 0) (ap lawful_row (sym c.in-Border.is) ∙ c.requires.lawful)
+pub unreachable-requires-in-Err-of-2 : goal.unreachable-requires-in-Err-of-2
+unreachable-requires-in-Err-of-2 c = let f = c.in-Border.fields in refused_lawful _ (border_placed f.from f.to) (border_fine f.quarters) f (c.in-Err-of-2.ensures 0) (ap lawful_row (sym c.in-Border.is) ∙ c.requires.lawful)
 
-pub returns_in_Ok : owed.returns-in-Ok
-returns_in_Ok c =
+pub returns-in-Ok : goal.returns-in-Ok
+returns-in-Ok c =
     let f = c.in-Bid.fields in
     let g = c.in-Ok.bid.fields in
     let same : f ≡ g = (judged_ok 0 (is_area f.area) (bid_fine f.quarters) f g (sym (c.in-Ok.ensures 0))).same in
     row_parts (bid g) c.args.row (kind.Bid g) (c.in-Bid.is ∙ ap kind.Bid same) (filed_bid g)
 
-pub returns_in_Ok_of : owed.returns-in-Ok-of
-returns_in_Ok_of c =
+pub returns-in-Ok-of : goal.returns-in-Ok-of
+returns-in-Ok-of c =
     let f = c.in-Need.fields in
     let g = c.in-Ok-of.need.fields in
     let same : f ≡ g = (judged_ok 0 (is_area f.area) (need_fine f.elasticity f.quarters) f g (sym (c.in-Ok-of.ensures 0))).same in
     row_parts (need g) c.args.row (kind.Need g) (c.in-Need.is ∙ ap kind.Need same) (filed_need g)
 
-pub returns_in_Ok_of_2 : owed.returns-in-Ok-of-2
-returns_in_Ok_of_2 c =
+pub returns-in-Ok-of-2 : goal.returns-in-Ok-of-2
+returns-in-Ok-of-2 c =
     let f = c.in-Border.fields in
     let g = c.in-Ok-of-2.border.fields in
     let same : f ≡ g = (judged_ok 0 (border_placed f.from f.to) (border_fine f.quarters) f g (sym (c.in-Ok-of-2.ensures 0))).same in

@@ -44,4 +44,4 @@ single_order-requires c =
 pub invariant_of-result-2 : goal.invariant_of-result-2
 invariant_of-result-2 c =
     let x = c.args.self in
-    (stays_whole x.rows.stand c.next-row.result.0 c.next-row.result.1.stand c.next-row.ensures.after x.whole (not_group c.next-row.result.0 c.in_default.not-Group), tt)
+    record { whole = stays_whole x.rows.stand c.next-row.result.0 c.next-row.result.1.stand c.next-row.ensures.after x.whole (not_group c.next-row.result.0 c.in_default.not-Group) }

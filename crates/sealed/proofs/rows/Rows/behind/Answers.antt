@@ -34,13 +34,10 @@ invariant_of-result c =
     let count = x.count in
     let room = x.room in
     let l = ap length rows in
-    let d = length-drop (row_size r) t in (
-      subst (λ (u : List ℕ). reads_on n u ≡ true) e (on_reads x.stand t r n c.requires x.sound),
-      (
-        subst (λ (u : List ℕ). lawful_rows (ahead n u) ≡ true) e (lawful_rest r (ahead n (drop (row_size r) t)) (ap lawful_rows (sym rows) ∙ x.lawful)),
-        (
-          subst (λ (u : List ℕ). length (ahead n u) ≡ x.left - 1) e (omega arith),
-          (subst (λ (u : List ℕ). n.at + length u < 18446744073709551616) e (omega arith), tt),
-        ),
-      ),
-    )
+    let d = length-drop (row_size r) t in
+    record {
+      sound = subst (λ (u : List ℕ). reads_on n u ≡ true) e (on_reads x.stand t r n c.requires x.sound);
+      lawful = subst (λ (u : List ℕ). lawful_rows (ahead n u) ≡ true) e (lawful_rest r (ahead n (drop (row_size r) t)) (ap lawful_rows (sym rows) ∙ x.lawful));
+      count = subst (λ (u : List ℕ). length (ahead n u) ≡ x.left - 1) e (omega arith);
+      room = subst (λ (u : List ℕ). n.at + length u < 18446744073709551616) e (omega arith);
+    }

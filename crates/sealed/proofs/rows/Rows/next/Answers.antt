@@ -18,7 +18,7 @@ unreachable-requires c =
 pub unreachable-requires-in-Err : goal.unreachable-requires-in-Err
 unreachable-requires-in-Err c =
     let x = c.args.self in
-    no_fault x.stand x.rest.now (told_book c.in-Err.-fault) (sym c.in-Err.ensures) x.sound
+    no_fault x.stand x.rest.now (told_book c.in-Err._fault) (sym c.in-Err.ensures) x.sound
 
 pub returns : goal.returns
 returns c =

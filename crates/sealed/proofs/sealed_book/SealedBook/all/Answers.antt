@@ -12,13 +12,10 @@ invariant_of-result c =
     let b = c.args.self in
     let t = b.text.now in
     let e = sym c.begin.ensures in
-    let zero : c.begin.result.at ≡ 0 = ap (λ (s : Stand). s.at) c.begin.ensures in (
-      subst (λ (s : Stand). reads_on s t ≡ true) e (passed_reads t b.passed),
-      (
-        subst (λ (s : Stand). lawful_rows (ahead s t) ≡ true) e (ap lawful_rows (begin_rows t) ∙ b.lawful),
-        (
-          subst (λ (s : Stand). length (ahead s t) ≡ b.found.rows) e (ap length (begin_rows t) ∙ sym (kept_rows t b.found (passed_is (checked t) b.found b.passed b.tells))),
-          (let h = c.ranges.self in omega arith, tt),
-        ),
-      ),
-    )
+    let zero : c.begin.result.at ≡ 0 = ap (λ (s : Stand). s.at) c.begin.ensures in
+    record {
+      sound = subst (λ (s : Stand). reads_on s t ≡ true) e (passed_reads t b.passed);
+      lawful = subst (λ (s : Stand). lawful_rows (ahead s t) ≡ true) e (ap lawful_rows (begin_rows t) ∙ b.lawful);
+      count = subst (λ (s : Stand). length (ahead s t) ≡ b.found.rows) e (ap length (begin_rows t) ∙ sym (kept_rows t b.found (passed_is (checked t) b.found b.passed b.tells)));
+      room = let h = c.ranges.self in omega arith;
+    }

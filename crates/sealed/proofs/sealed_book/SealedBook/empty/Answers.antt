@@ -5,4 +5,4 @@ use Rattle.sealed.proofs.Turns.{seal_lawful}
 use Rattle.sealed.proofs.sealed_book.SealedBook.empty.Goals as goal
 
 pub invariant_of-result : goal.invariant_of-result
-invariant_of-result c = (ap passes seal_checks, (ap found_in seal_checks, (seal_lawful, tt)))
+invariant_of-result c = record { passed = ap passes seal_checks; tells = ap found_in seal_checks; lawful = seal_lawful }

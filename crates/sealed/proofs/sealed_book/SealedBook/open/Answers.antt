@@ -8,4 +8,4 @@ pub invariant_of-result : goal.invariant_of-result
 invariant_of-result c =
     let t = c.args.text.now in
     let e : checked t ≡ Ok c.in-Ok.found = sym c.in-Ok.ensures.found in
-    (ap passes e, (ap found_in e, (written_lawful t c.in-Ok.found.length (rows_in t) c.in-Ok.ensures.written, tt)))
+    record { passed = ap passes e; tells = ap found_in e; lawful = written_lawful t c.in-Ok.found.length (rows_in t) c.in-Ok.ensures.written }

@@ -35,7 +35,7 @@ loop-k-preserved c =
     let t = d.loop-k.rest.now in
     let m = step_moves d.loop-k.s t d.in-Ok-Some.row d.in-Ok-Some.next (took d) in
     let z = reads_on_lem d.loop-k.invariant.0 d.loop-k.s t d.in-Ok-Some.row d.in-Ok-Some.next (took d) d.loop-k.invariant.1 in
-    rw (take_rest t d.size.result) (rw d.size.ensures (z.0, z.1, omega (arith, m.at, m.fits, d.loop-k.invariant.2, length-drop (row_size d.in-Ok-Some.row) t), push_drop d.in-Ok-Some.row (read_rows z.0 d.in-Ok-Some.next (drop (row_size d.in-Ok-Some.row) t)) (decoded d.args.self.now.text.now) d.loop-k.-k (sym z.2 ∙ d.loop-k.invariant.3)))
+    rw (take_rest t d.size.result) (rw d.size.ensures (z.0, z.1, omega (arith, m.at, m.fits, d.loop-k.invariant.2, length-drop (row_size d.in-Ok-Some.row) t), push_drop d.in-Ok-Some.row (read_rows z.0 d.in-Ok-Some.next (drop (row_size d.in-Ok-Some.row) t)) (decoded d.args.self.now.text.now) d.loop-k._k (sym z.2 ∙ d.loop-k.invariant.3)))
 
 pub returns-in-Ok-None : goal.returns-in-Ok-None
 unfolding rows_in
@@ -43,15 +43,15 @@ returns-in-Ok-None c =
     let a = c.in-Ok-None.ensures in
     let e : step_of c.loop-k.s c.loop-k.rest.now ≡ Ok None = cc in
     let q = reads_seal c.loop-k.invariant.0 c.loop-k.s c.loop-k.rest.now e c.loop-k.invariant.1 in
-    sym (none_past c.loop-k.s (decoded c.args.self.now.text.now) c.loop-k.-k c.args.i (sym q ∙ c.loop-k.invariant.3) (omega (arith, c.loop-k-test.true)))
+    sym (none_past c.loop-k.s (decoded c.args.self.now.text.now) c.loop-k._k c.args.i (sym q ∙ c.loop-k.invariant.3) (omega (arith, c.loop-k-test.true)))
 
 pub returns-in-Err : goal.returns-in-Err
 unfolding rows_in
 returns-in-Err c =
-    let x = told_book c.in-Err.-fault in
+    let x = told_book c.in-Err._fault in
     let e : step_of c.loop-k.s c.loop-k.rest.now ≡ Err x = sym c.in-Err.ensures in
     let q = reads_fault c.loop-k.invariant.0 c.loop-k.s c.loop-k.rest.now x e c.loop-k.invariant.1 in
-    sym (none_fault x (decoded c.args.self.now.text.now) c.loop-k.-k c.args.i (sym q ∙ c.loop-k.invariant.3))
+    sym (none_fault x (decoded c.args.self.now.text.now) c.loop-k._k c.args.i (sym q ∙ c.loop-k.invariant.3))
 
 pub returns-in-Ok-Some-step : goal.returns-in-Ok-Some-step
 unfolding rows_in
@@ -60,12 +60,12 @@ returns-in-Ok-Some-step c =
     let y = decoded b.text.now in
     let r = c.in-Ok-Some-step.row in
     let a = c.in-Ok-Some-step.ensures in
-    let e : step_of c.loop-k.s c.loop-k.rest.now ≡ Ok (Some (r, c.in-Ok-Some-step.-next)) = cc in
-    let z = reads_on_lem c.loop-k.invariant.0 c.loop-k.s c.loop-k.rest.now r c.in-Ok-Some-step.-next e c.loop-k.invariant.1 in
+    let e : step_of c.loop-k.s c.loop-k.rest.now ≡ Ok (Some (r, c.in-Ok-Some-step._next)) = cc in
+    let z = reads_on_lem c.loop-k.invariant.0 c.loop-k.s c.loop-k.rest.now r c.in-Ok-Some-step._next e c.loop-k.invariant.1 in
     let k : b.found.rows ≡ length (rows_of y) = kept_rows b.text.now b.found (passed_is (checked b.text.now) b.found b.passed b.tells) in
-    let i : c.loop-k.-k ≡ c.args.i = omega arith in
-    let h : c.loop-k.-k < length (rows_of y) = omega arith in
-    sym (rw (sym i) (next_is r (read_rows z.0 c.in-Ok-Some-step.-next (drop (row_size r) c.loop-k.rest.now)) y c.loop-k.-k h (sym z.2 ∙ c.loop-k.invariant.3)))
+    let i : c.loop-k._k ≡ c.args.i = omega arith in
+    let h : c.loop-k._k < length (rows_of y) = omega arith in
+    sym (rw (sym i) (next_is r (read_rows z.0 c.in-Ok-Some-step._next (drop (row_size r) c.loop-k.rest.now)) y c.loop-k._k h (sym z.2 ∙ c.loop-k.invariant.3)))
 
 pub returns-in-Ok-None-step : goal.returns-in-Ok-None-step
 unfolding rows_in
@@ -73,12 +73,12 @@ returns-in-Ok-None-step c =
     let a = c.in-Ok-None-step.ensures in
     let e : step_of c.loop-k.s c.loop-k.rest.now ≡ Ok None = cc in
     let q = reads_seal c.loop-k.invariant.0 c.loop-k.s c.loop-k.rest.now e c.loop-k.invariant.1 in
-    sym (none_past c.loop-k.s (decoded c.args.self.now.text.now) c.loop-k.-k c.args.i (sym q ∙ c.loop-k.invariant.3) (omega arith))
+    sym (none_past c.loop-k.s (decoded c.args.self.now.text.now) c.loop-k._k c.args.i (sym q ∙ c.loop-k.invariant.3) (omega arith))
 
 pub returns-in-Err-step : goal.returns-in-Err-step
 unfolding rows_in
 returns-in-Err-step c =
-    let x = told_book c.in-Err-step.-fault in
+    let x = told_book c.in-Err-step._fault in
     let e : step_of c.loop-k.s c.loop-k.rest.now ≡ Err x = sym c.in-Err-step.ensures in
     let q = reads_fault c.loop-k.invariant.0 c.loop-k.s c.loop-k.rest.now x e c.loop-k.invariant.1 in
-    sym (none_fault x (decoded c.args.self.now.text.now) c.loop-k.-k c.args.i (sym q ∙ c.loop-k.invariant.3))
+    sym (none_fault x (decoded c.args.self.now.text.now) c.loop-k._k c.args.i (sym q ∙ c.loop-k.invariant.3))

@@ -5,4 +5,4 @@ use Rattle.sealed.proofs.sealed_book.SealedBook.row.Given as goal
 
 -- what is left to read is the book without its first rows
 abbrev pub invariant-loop-k : goal.invariant-loop-k
-invariant-loop-k l = (f : ℕ) × (length l.rest ≤ f) × (l.s.at + length l.rest ≡ length l.self.text.now) × (read_rows f l.s l.rest ≡ drop_rows l.-k (decoded l.self.text.now))
+invariant-loop-k l = (f : ℕ) × (length l.rest ≤ f) × (l.s.at + length l.rest ≡ length l.self.text.now) × (read_rows f l.s l.rest ≡ drop_rows l._k (decoded l.self.text.now))
