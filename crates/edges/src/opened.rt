@@ -158,7 +158,7 @@ fn spelled_again(heap: Global, text: &[u8]) -> Result<Vec<u8>, AllocError> {
 #[test]
 fn rows_of_a_sealed_book(rt: HostRuntime) -> Result<(), Fail> {
     let again = spelled_again(rt.alloc(), BOOK)?;
-    assert!(rt; again.as_slice() == BOOK);
+    assert!(rt; again.as_slice() == BOOK.as_slice());
     Ok(())
 }
 

@@ -180,7 +180,7 @@ const READ: [(usize, &[Sample], u8, Outcome); 20] = [
 fn tried(rt: &impl Abort, heap: Global, cases: &[Case]) -> Result<(), Fail> {
     for (n, (samples, wanted)) in cases.iter().enumerate() {
         for k in 0..4 {
-            both(rt, heap, samples, k, *wanted).note(n)?;
+            both(rt, heap, n, samples, k, *wanted)?;
         }
     }
     Ok(())
@@ -294,9 +294,9 @@ const FULL: [(usize, &[Sample], Outcome); 11] = [
 
 #[test]
 fn rows_to_the_last(rt: HostRuntime) -> Result<(), Fail> {
-    for (borders, behind, wanted) in &FULL {
+    for (n, (borders, behind, wanted)) in FULL.iter().enumerate() {
         let samples = behind_borders(rt.alloc(), *borders, behind)?;
-        both(&rt, rt.alloc(), samples.as_slice(), 0, *wanted)?;
+        both(&rt, rt.alloc(), n, samples.as_slice(), 0, *wanted)?;
     }
     Ok(())
 }

@@ -100,22 +100,30 @@ pub(crate) fn write(text: &mut [u8], samples: &[Sample], k: usize) -> Outcome {
 }
 
 // Tries rows by a reader, on the text that the rules spell, and by a writer, who has just the room for it. Both tell the
-// same, and a book that passes has the same bytes.
+// same, and a book that passes has the same bytes. Where they do not, the case is named.
 pub(crate) fn both(
     rt: &impl Abort,
     heap: Global,
+    case: usize,
     samples: &[Sample],
     k: usize,
     wanted: Outcome,
 ) -> Result<(), Fail> {
     let spelled = ended(heap, samples, k, &[0x53])?;
-    assert_eq!(rt; read(spelled.as_slice()), wanted, "by a reader");
+    assert_eq!(rt;
+        read(spelled.as_slice()),
+        wanted,
+        "case {case}, by a reader"
+    );
     let mut written = vec![in heap; 0u8; spelled.len()]?;
     assert_eq!(rt;
         write(written.as_mut_slice(), samples, k),
         wanted,
-        "by a writer"
+        "case {case}, by a writer"
     );
-    assert!(rt; wanted.is_err() || written == spelled, "other bytes");
+    assert!(rt;
+        wanted.is_err() || written == spelled,
+        "case {case}, other bytes"
+    );
     Ok(())
 }
