@@ -1,7 +1,6 @@
 -- A bid's operands: their lengths, and that reading and writing undo each other.
-use Rattle.std.proofs.Common.{◌≡◌, ℕ, ◌+◌, ◌<◌, ◌≤◌, Bool, true, false, ltb, leb, List, [], ◌∷◌, ◌++◌, length, get_or, take, drop, ℤ, pos, Some, None, Ok, Err, Option, sym, refl, ap, ◌∙◌, subst, append_assoc, arith, length-append, leb-true}
+use Rattle.std.proofs.Common.{◌≡◌, ℕ, ◌+◌, ◌≤◌, true, leb, List, [], ◌∷◌, ◌++◌, length, get_or, take, drop, ℤ, pos, Some, None, Ok, Option, sym, refl, ap, ◌∙◌, subst, append_assoc, arith, length-append, leb-true}
 use Rattle.std.proofs.lemmas.Bool.{and_parts}
-use Rattle.byte_layer.specs.Fault.{fault}
 use Rattle.byte_layer.specs.Number.{number, octets, signed_number, signed_octets, twos, Octets}
 use Rattle.byte_layer.proofs.Numbers.{length_octets, octets_read}
 use Rattle.byte_layer.proofs.Parts.{field_back, signed_field_back, signed_octets_read, take_next, head_two}
@@ -10,7 +9,7 @@ use Rattle.units.specs.declared.side.Side.{Side}
 use Rattle.units.specs.Side.{side_of, side_byte}
 use Rattle.units.specs.Limit.{is_area, is_quantity, is_price}
 use Rattle.units.specs.Field.{unreadable}
-use Rattle.units.proofs.Judged.{Taken, judged_ok, no_err, side_back, side_forth, quantity_small, price_holds}
+use Rattle.units.proofs.Judged.{judged_ok, no_err, side_back, side_forth, quantity_small, price_holds}
 use Rattle.bid.specs.declared.fields.BidQuarter.{BidQuarter}
 use Rattle.bid.specs.declared.fields.BidFields.{BidFields}
 use Rattle.bid.specs.Fields.{bid_quarter, quarter_fine, bid_fine, bid_offers, bid_judged}

@@ -1,5 +1,5 @@
 -- What the code of a bid computes, in the words of its definition.
-use Rattle.std.proofs.Common.{◌≡◌, ℕ, ◌<◌, ◌≤◌, Bool, true, false, ◌&&◌, List, ℤ, pos, ◌*ℤ◌, nat_abs, sym, refl, ◌∙◌, lit<, w32, SFits, to_z, of_z}
+use Rattle.std.proofs.Common.{◌≡◌, ℕ, ◌<◌, ◌≤◌, Bool, true, false, ◌&&◌, List, ℤ, ◌*ℤ◌, nat_abs, sym, refl, ◌∙◌, lit<, w32, SFits, to_z, of_z}
 use Rattle.std.proofs.lemmas.Int.{to_z-of_z}
 use Rattle.std.proofs.lemmas.Bool.{and_parts, and_from}
 use Rattle.lot.specs.Sum.{every, same_z}

@@ -1,6 +1,6 @@
 -- The operands of a bid's command, 50 bytes: area, side, then for each quarter minimum, maximum and price,
 -- 4 bytes each, the price signed.
-use Rattle.std.specs.Prelude.{ℕ, ◌+◌, List, [], ◌∷◌, ◌++◌, Some, None, Ok, Err, Option, Result, slice_index}
+use Rattle.std.specs.Prelude.{ℕ, ◌+◌, List, [], ◌∷◌, ◌++◌, Some, None, Err, Option, Result, slice_index}
 use Rattle.byte_layer.specs.declared.fault.Told.{Told}
 use Rattle.byte_layer.specs.Number.{number, octets, signed_number, signed_octets}
 use Rattle.units.specs.declared.side.Side.{Side}

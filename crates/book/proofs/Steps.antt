@@ -1,8 +1,5 @@
 -- What the steps of a reader tell of sizes and counts.
-use Rattle.std.proofs.Common.{◌≡◌, ℕ, zero, suc, ◌+◌, ◌-◌, ◌<◌, ◌≤◌, Bool, true, false, cond, not, ◌&&◌, eqb, ltb, leb, List, [], ◌∷◌, ◌++◌, length, get_or, drop, Some, None, Ok, Err, Option, Result, sym, refl, ap, ◌∙◌, subst, zero-add, arith, length-drop, leb-true}
-use Rattle.std.specs.List.{slice_get}
-use Rattle.std.proofs.lemmas.Option.{slice_get_past}
-use Rattle.std.proofs.lemmas.List.{drop-drop}
+use Rattle.std.proofs.Common.{◌≡◌, ℕ, zero, suc, ◌+◌, ◌≤◌, Bool, true, false, cond, not, ◌&&◌, eqb, ltb, leb, List, [], ◌∷◌, length, get_or, drop, Some, None, Ok, Err, Option, Result, sym, refl, ap, ◌∙◌, subst, arith, length-drop, leb-true}
 use Rattle.byte_layer.specs.declared.fault.Told.{Told}
 use Rattle.byte_layer.specs.Fault.{fault}
 use Rattle.units.specs.Field.{judged}
@@ -11,7 +8,6 @@ use Rattle.bid.specs.Format.{bid_read}
 use Rattle.bid.specs.Group.{group_fine}
 use Rattle.need.specs.Format.{need_read}
 use Rattle.border.specs.Format.{border_read}
-use Rattle.book.specs.declared.check.Checked.{Checked}
 use Rattle.book.specs.declared.command.Command.{Command}
 use Rattle.book.specs.declared.command.Command.TheVariants as command
 use Rattle.book.specs.declared.row.Row.{Row}
@@ -19,9 +15,9 @@ use Rattle.book.specs.declared.row.Row.TheVariants as kind
 use Rattle.book.specs.declared.stand.Stand.{Stand}
 use Rattle.book.specs.Fault.{most_rows}
 use Rattle.book.specs.Command.{command_size, command_for, command_at, whole, is_bid, is_seal}
-use Rattle.book.specs.Rows.{rowed, group_read, row_read, row_size}
-use Rattle.book.specs.Stands.{fresh, begin, onward, member_on, group_on, closed, after}
-use Rattle.book.specs.Reading.{step_taken, step_row, step_command, step_of, push, ends, stepped, read_rows, decoded, checked, rows_of, rows_in}
+use Rattle.book.specs.Rows.{rowed, row_read, row_size}
+use Rattle.book.specs.Stands.{fresh, onward, member_on, group_on, closed, after}
+use Rattle.book.specs.Reading.{step_taken, step_row, step_command, step_of, push, ends, stepped, read_rows}
 
 -- a test that came out one way or the other
 pub cond_case : {X : Type 0} {P : Type 0} (b : Bool) (x y z : X) → cond b x y ≡ z → (b ≡ true → x ≡ z → P) → (b ≡ false → y ≡ z → P) → P

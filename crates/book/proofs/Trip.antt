@@ -1,24 +1,24 @@
 -- Writing and reading undo each other.
-use Rattle.std.proofs.Common.{◌≡◌, ℕ, zero, suc, ◌+◌, ◌-◌, ◌<◌, ◌≤◌, Bool, true, false, cond, not, ◌&&◌, eqb, ltb, leb, List, [], ◌∷◌, ◌++◌, length, get_or, take, drop, IfOk, Some, None, Ok, Err, Option, Result, sym, refl, ap, ◌∙◌, subst, append_assoc, zero-add, arith, length-append, take-append-drop, ltb-false, le-ltb, eqb-true, le-leb, leb-false, leb-true}
+use Rattle.std.proofs.Common.{◌≡◌, ℕ, zero, suc, ◌+◌, ◌-◌, ◌<◌, ◌≤◌, Bool, true, false, not, ◌&&◌, eqb, ltb, leb, List, [], ◌∷◌, ◌++◌, length, get_or, take, drop, IfOk, Some, None, Ok, Err, Option, Result, sym, refl, ap, ◌∙◌, subst, append_assoc, zero-add, arith, length-append, take-append-drop, ltb-false, le-ltb, eqb-true, le-leb, leb-false}
 use borrow.Author.Tests.{lt-leb}
 use Rattle.std.proofs.lemmas.List.{drop_at, take_at, take-append-le, take-take, length-take-le, append-nil, get_or-drop, drop-drop}
 use Rattle.byte_layer.specs.declared.fault.Told.{Told}
 use Rattle.byte_layer.specs.Fault.{fault, heard}
 use Rattle.byte_layer.specs.Number.{placed, Octets}
 use Rattle.units.specs.Field.{judged}
-use Rattle.units.proofs.Judged.{no_err, no_some, Taken, judged_ok}
+use Rattle.units.proofs.Judged.{no_err, no_some, judged_ok}
 use Rattle.bid.specs.declared.fields.BidFields.{BidFields}
 use Rattle.bid.specs.Fields.{bid_judged}
-use Rattle.bid.specs.Format.{bid_bytes, bid_read}
+use Rattle.bid.specs.Format.{bid_read}
 use Rattle.bid.specs.Group.{group_fine}
 use Rattle.bid.proofs.Operands.{length_bid, bid_back, bid_forth}
 use Rattle.need.specs.declared.fields.NeedFields.{NeedFields}
 use Rattle.need.specs.Fields.{need_judged}
-use Rattle.need.specs.Format.{need_bytes, need_read}
+use Rattle.need.specs.Format.{need_read}
 use Rattle.need.proofs.Operands.{length_need, need_back, need_forth}
 use Rattle.border.specs.declared.fields.BorderFields.{BorderFields}
 use Rattle.border.specs.Fields.{border_judged}
-use Rattle.border.specs.Format.{border_bytes, border_read}
+use Rattle.border.specs.Format.{border_read}
 use Rattle.border.proofs.Operands.{length_border, border_back, border_forth}
 use Rattle.book.specs.declared.check.Checked.{Checked}
 use Rattle.book.specs.declared.command.Command.{Command}
@@ -29,11 +29,11 @@ use Rattle.book.specs.declared.stand.Stand.{Stand}
 use Rattle.book.specs.declared.fault.BookFault.{BookFault}
 use Rattle.book.specs.Fault.{most_rows, told_book}
 use Rattle.book.specs.Command.{command_byte, command_size, command_for, whole, command_at, is_bid, is_seal}
-use Rattle.book.specs.Rows.{command_of, row_size, operands, row_bytes, encode, rowed, group_read, row_read, row_judged, Four}
-use Rattle.book.specs.Stands.{fresh, begin, after}
-use Rattle.book.specs.Reading.{step_taken, step_row, step_command, step_of, push, stepped, read_rows, decoded, ends, checked, rows_of, rows_in}
+use Rattle.book.specs.Rows.{command_of, row_size, operands, row_bytes, encode, rowed, row_read, row_judged, Four}
+use Rattle.book.specs.Stands.{begin}
+use Rattle.book.specs.Reading.{step_of, push, stepped, read_rows, decoded, ends, checked, rows_of, rows_in}
 use Rattle.book.specs.Writing.{Files, Runs, none, more, Begins, Written}
-use Rattle.book.proofs.Steps.{cond_case, no_none, command_size_lem, row_size_lem, row_has, after_at, Took, step_took, step_moves, Ended, step_ended, reads_on_lem, reads_seal, reads_count, push_ok}
+use Rattle.book.proofs.Steps.{cond_case, no_none, command_size_lem, row_has, after_at, step_took, step_moves, step_ended, reads_on_lem, reads_seal, reads_count, push_ok}
 
 -- fields that were taken as a row
 rowed_in : {X : Type 0} (f : X → Row) (x : Result X Told) (y : X) → ((a b : X) → f a ≡ f b → a ≡ b) → rowed f x ≡ Ok (Some (f y)) → x ≡ Ok y

@@ -12,7 +12,7 @@ use Rattle.book.specs.declared.command.Command.{Command}
 use Rattle.book.specs.declared.command.Command.TheVariants as command
 use Rattle.book.specs.declared.row.Row.{Row}
 use Rattle.book.specs.declared.row.Row.TheVariants as kind
-use Rattle.book.specs.Command.{command_size, command_byte}
+use Rattle.book.specs.Command.{command_byte}
 
 -- the command that a row is
 abbrev pub command_of : Row → Command

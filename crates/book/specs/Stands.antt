@@ -1,5 +1,5 @@
 -- Where a reader stands: the bytes and the rows behind it, and the group underway, if any.
-use Rattle.std.specs.Prelude.{ℕ, ◌+◌, ◌-◌, Bool, true, cond, ◌&&◌, Some, None, Ok, Err, Option, Result, ◌==◌}
+use Rattle.std.specs.Prelude.{ℕ, ◌+◌, ◌-◌, true, cond, ◌&&◌, Some, None, Ok, Err, Option, Result, ◌==◌}
 use Rattle.std.specs.Option.{unwrap_or}
 use Rattle.byte_layer.specs.declared.fault.Told.{Told}
 use Rattle.byte_layer.specs.Fault.{fault}

@@ -1,5 +1,5 @@
 -- Rows that may be filed one after another, and texts that hold them.
-use Rattle.std.specs.Prelude.{◌≡◌, ℕ, ◌+◌, ◌<◌, ◌≤◌, Bool, false, not, ◌&&◌, List, [], ◌∷◌, ◌++◌, length, take, Some, Ok, nat_lt}
+use Rattle.std.specs.Prelude.{◌≡◌, ℕ, ◌+◌, ◌<◌, ◌≤◌, false, not, ◌&&◌, List, [], ◌∷◌, ◌++◌, length, take, Some, Ok, nat_lt}
 use Rattle.book.specs.declared.row.Row.{Row}
 use Rattle.book.specs.declared.stand.Stand.{Stand}
 use Rattle.book.specs.Fault.{most_rows}

@@ -1,5 +1,5 @@
 -- The operands of a border's command, 35 bytes: from, to, step, then for each quarter forward and back, 4 bytes each.
-use Rattle.std.specs.Prelude.{ℕ, ◌+◌, List, [], ◌∷◌, ◌++◌, Some, None, Ok, Err, Option, Result, slice_index}
+use Rattle.std.specs.Prelude.{ℕ, ◌+◌, List, [], ◌∷◌, ◌++◌, Some, None, Err, Option, Result, slice_index}
 use Rattle.byte_layer.specs.declared.fault.Told.{Told}
 use Rattle.byte_layer.specs.Number.{number, octets}
 use Rattle.units.specs.Field.{unreadable}

@@ -1,10 +1,10 @@
 -- Reading and writing numbers undo each other, at every width.
-use Rattle.std.proofs.Common.{◌≡◌, ℕ, zero, suc, ◌+◌, ◌-◌, ◌*◌, ◌/◌, ◌%◌, ◌^◌, ◌<◌, ◌≤◌, Bool, true, false, cond, ltb, List, [], ◌∷◌, ◌++◌, length, get_or, take, drop, ℤ, pos, negsuc, sym, refl, ap, ◌∙◌, subst, ⊎_elim, append_assoc, le-add_right, mul-le-mul_right, mod-eq_of_lt, mul_assoc, pow-suc, arith, lit<, length-append, length-drop, take-append-drop, drop-cons, SFits, to_z, of_z, le-ltb, lt-ltb}
+use Rattle.std.proofs.Common.{◌≡◌, ℕ, zero, suc, ◌+◌, ◌-◌, ◌*◌, ◌/◌, ◌%◌, ◌^◌, ◌<◌, ◌≤◌, Bool, true, false, cond, ltb, List, [], ◌∷◌, ◌++◌, length, get_or, take, drop, ℤ, pos, negsuc, sym, refl, ap, ◌∙◌, subst, ⊎_elim, append_assoc, le-add_right, mul-le-mul_right, mod-eq_of_lt, mul_assoc, pow-suc, arith, lit<, length-append, take-append-drop, drop-cons, SFits, to_z, of_z, le-ltb, lt-ltb}
 use native.Mathlib.Nat.{pow-succ', mod-one, mul-add-div_right, div-eq_of_lt}
 use lib.Arith.{mod-mul}
 use mir.Val.{sel, bits, hbits}
 use mir.Syntax.{Width}
-use borrow.Rule.Slice.PartMut.{put_mid, post_of, Post-is}
+use borrow.Rule.Slice.PartMut.{put_mid, Post-is}
 use Rattle.std.proofs.lemmas.Bool.Decides.{leb_tells}
 use Rattle.std.proofs.lemmas.List.{get_or-append_right, length-take-le, drop-drop}
 use Rattle.byte_layer.specs.Number.{number, octets, twos, signed, signed_number, signed_octets, Holds, placed, Octets}

@@ -1,14 +1,14 @@
 -- What a group answers, from what its rows answer as joined lots.
-use Rattle.std.proofs.Common.{◌≡◌, ℕ, zero, suc, ◌+◌, ◌*◌, ◌<◌, ◌≤◌, min, Bool, true, false, cond, not, leb, List, [], ◌∷◌, map, length, get_or, drop, ℤ, pos, ◌≤ℤ◌, Some, None, Option, sym, refl, ap, ◌∙◌, subst, ap₂, add-one, arith, w64, SFits, to_z, of_z}
+use Rattle.std.proofs.Common.{◌≡◌, ℕ, suc, ◌+◌, ◌*◌, ◌<◌, ◌≤◌, min, Bool, true, false, cond, not, List, [], ◌∷◌, map, length, get_or, drop, ℤ, pos, ◌≤ℤ◌, Some, None, Option, sym, refl, ap, ◌∙◌, subst, ap₂, arith, w64, SFits, to_z, of_z}
 use Rattle.std.specs.Int.{int_max}
 use Rattle.std.proofs.lemmas.Int.{ints, clamps, to_z-of_z}
 use Rattle.std.proofs.lemmas.List.{drop_all}
 use Rattle.lot.specs.Sum.{count}
-use Rattle.lot.specs.Meaning.{Meaning, Cells, Prices, cell_rows, lot_net, amount}
+use Rattle.lot.specs.Meaning.{Meaning, Cells, Prices, cell_rows}
 use Rattle.lot.specs.Parts.{group_named}
 use Rattle.lot.specs.Join.{join, blank, together}
 use Rattle.lot.specs.Page.{table_of, Sized, Ready}
-use Rattle.lot.specs.Single.{Single, single, idle_row, at_most_one, largest, headed, exclusive}
+use Rattle.lot.specs.Single.{idle_row, at_most_one, largest, headed}
 use Rattle.lot.specs.Laws.Sums.{count_more}
 use Rattle.lot.specs.Laws.Exclusives.{headed_cells, each_admitted}
 use Rattle.bid.specs.declared.lawful.Bid.{Bid}

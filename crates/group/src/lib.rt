@@ -1,5 +1,5 @@
 #![tactic(auto)]
 
-pub mod group;
 pub mod as_lot;
+pub mod group;
 pub mod made;

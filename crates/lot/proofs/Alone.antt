@@ -1,9 +1,9 @@
 -- Questions to a lot of a single row, from what its four cells tell.
-use Rattle.std.proofs.Common.{◌≡◌, ℕ, ◌+◌, ◌*◌, ◌^◌, ◌<◌, ◌≤◌, min, Bool, true, false, cond, List, length, ℤ, pos, nat_abs, ◌≤ℤ◌, ◌<ℤ◌, Some, None, Option, sym, refl, ap, ◌∙◌, subst, arith, w32, w64, to_z, of_z}
+use Rattle.std.proofs.Common.{◌≡◌, ℕ, ◌^◌, ◌<◌, ◌≤◌, min, Bool, true, false, cond, List, length, ℤ, pos, nat_abs, ◌≤ℤ◌, ◌<ℤ◌, Some, None, Option, sym, refl, ap, ◌∙◌, subst, arith, w32, w64, to_z, of_z}
 use lib.Signed.{le_z}
 use Rattle.std.specs.Int.{int_max}
 use Rattle.std.proofs.lemmas.Int.{ints, clamps}
-use Rattle.lot.specs.Meaning.{Meaning, Cells, Prices, cell_rows, lot_net}
+use Rattle.lot.specs.Meaning.{cell_rows, lot_net}
 use Rattle.lot.specs.Page.{table_of, four, at, Within, AllWithin, Sized, Ready}
 use Rattle.lot.specs.Single.{Single, single}
 use Rattle.lot.specs.Laws.Sums.{sum_one}

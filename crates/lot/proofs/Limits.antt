@@ -1,11 +1,11 @@
 -- How large a lot's figures can be.
-use Rattle.std.proofs.Common.{◌≡◌, ℕ, zero, suc, ◌+◌, ◌-◌, ◌*◌, ◌<◌, ◌≤◌, List, ℤ, pos, negsuc, ◌+ℤ◌, nat_abs, ◌≤ℤ◌, sym, refl, ap, ◌∙◌, subst, ⊎_elim, arith}
+use Rattle.std.proofs.Common.{◌≡◌, ℕ, zero, suc, ◌*◌, ◌<◌, ◌≤◌, List, ℤ, pos, nat_abs, ◌≤ℤ◌, ap, ⊎_elim, arith}
 use Rattle.std.proofs.lemmas.Int.{ints}
 use Rattle.std.proofs.lemmas.Bool.{cases_lt}
 use Rattle.lot.specs.Sum.{sum}
-use Rattle.lot.specs.Meaning.{Meaning, Cells, Prices, Table, Fitting, cell_rows, Admitted, Quoted, Capped, no_cells, money, amount, surplus, lot_net}
+use Rattle.lot.specs.Meaning.{Meaning, Cells, Prices, Fitting, cell_rows, Admitted, Quoted, Capped, no_cells, surplus, lot_net}
 use Rattle.lot.specs.Duties.{most_lot_rows, most_power, most_money, Duties}
-use Rattle.lot.specs.Page.{table_of, Sized, Ready}
+use Rattle.lot.specs.Page.{table_of, Ready}
 use Rattle.lot.proofs.Splits.{sized_fits}
 use Rattle.lot.specs.Laws.Sums.{sum_within}
 use Rattle.lot.specs.Laws.Joins.{idle_surplus}

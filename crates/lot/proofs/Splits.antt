@@ -1,15 +1,14 @@
 -- The first rows of a cell part and the rows after them, as cells.
-use Rattle.std.proofs.Common.{◌≡◌, ℕ, zero, suc, ◌+◌, ◌-◌, ◌*◌, ◌^◌, ◌<◌, ◌≤◌, cond, ltb, List, length, get_or, take, drop, ℤ, pos, Some, None, Option, sym, refl, ap, ◌∙◌, ap₂, ⊎_elim, arith, length-drop, length-take}
+use Rattle.std.proofs.Common.{◌≡◌, ℕ, zero, suc, ◌+◌, ◌*◌, ◌^◌, ◌<◌, ◌≤◌, cond, ltb, List, length, get_or, take, drop, pos, Some, Option, sym, refl, ap, ◌∙◌, ap₂, ⊎_elim, arith, length-drop, length-take}
 use mathlib.Core.Path.{fun_ext}
 use Rattle.std.proofs.lemmas.List.{get_or-take, get_or-drop, get_or_past}
-use Rattle.std.proofs.lemmas.Bool.{cases_lt, cond_both, lt-ltb, le-ltb, cond-true, cond-false}
-use Rattle.lot.specs.Sum.{beside}
-use Rattle.lot.specs.Meaning.{Meaning, Cells, Prices, Table, Fitting, Quoted, Admitted, cell_rows, no_cells}
+use Rattle.std.proofs.lemmas.Bool.{cases_lt, cond_both, le-ltb, cond-false}
+use Rattle.lot.specs.Meaning.{Meaning, Prices, Table, Fitting, Quoted, cell_rows, no_cells}
 use Rattle.lot.specs.Parts.{front, shift}
 use Rattle.lot.specs.Join.{join}
 use Rattle.byte_layer.specs.Number.{number, signed, signed_number}
 use Rattle.lot.specs.Page.{table_of, Sized, Ready, Priced}
-use Rattle.lot.specs.Laws.Sums.{beside_below, beside_above, count_le}
+use Rattle.lot.specs.Laws.Sums.{beside_below, beside_above}
 use Rattle.lot.specs.Laws.Joins.{admits_low, admits_high, cell_rows_join}
 
 pub number_take : (k n : ℕ) (b : List ℕ) (i : ℕ) → i + k ≤ n → number k (take n b) i ≡ number k b i

@@ -1,17 +1,17 @@
 -- What the code of a trade computes, in the words of its definition; and cells of one row as a page holds them.
-use Rattle.std.proofs.Common.{◌≡◌, ℕ, zero, suc, ◌*◌, ◌^◌, ◌<◌, ◌≤◌, Bool, true, false, ltb, List, ℤ, pos, ◌-ℤ◌, ◌*ℤ◌, neg_ℤ, nat_abs, sym, refl, ap, ◌∙◌, subst, ap₂, ⊎_elim, arith, lit<, lit≤, w64, SFits, to_z, of_z}
+use Rattle.std.proofs.Common.{◌≡◌, ℕ, zero, suc, ◌^◌, ◌<◌, ◌≤◌, Bool, true, false, ltb, List, ℤ, pos, ◌-ℤ◌, ◌*ℤ◌, neg_ℤ, nat_abs, sym, refl, ap, ◌∙◌, subst, ap₂, ⊎_elim, arith, lit≤, w64, SFits, to_z, of_z}
 use mathlib.Core.Path.{fun_ext}
 use Rattle.std.proofs.lemmas.Int.{ints}
 use Rattle.std.proofs.lemmas.Bool.{cond-false, le-ltb, cases_lt}
 use Rattle.lot.specs.declared.trade.TradeTerms.{TradeTerms}
 use Rattle.lot.specs.Sum.{sum}
-use Rattle.lot.specs.Meaning.{Prices, Capped, money}
+use Rattle.lot.specs.Meaning.{Prices, money}
 use Rattle.lot.specs.Page.{table_of, four, at, Within, AllWithin, Priced}
 use Rattle.lot.specs.Trade.{Trade, turned, trade_net, quarter_worth, trade_worth, quarter_amount, gain}
 use Rattle.lot.specs.Direction.{sells, towards, trade_of, terms_of, Fair}
 use Rattle.lot.specs.Laws.Sums.{sum_same, each_four}
 use Rattle.lot.specs.Laws.Trades.{abs_turned, worth_is, trade_money, gain_within}
-use Rattle.lot.proofs.Machine.{within_more, back64, each_within, all_within, dot_within}
+use Rattle.lot.proofs.Machine.{within_more, each_within, all_within, dot_within}
 
 -- ---- four numbers as an array holds them
 pub four_at : (f : ℕ → ℤ) (t : ℕ) → t < 4 → at (four f) t ≡ f t

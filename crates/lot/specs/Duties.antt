@@ -1,5 +1,5 @@
 -- What every lot owes: five duties, each of lots of at most 4,096 rows.
-use Rattle.std.specs.Prelude.{◌≡◌, ℕ, ◌*◌, ◌<◌, ◌≤◌, ℤ, pos, ◌+ℤ◌, ◌≤ℤ◌, None, unsigned_abs}
+use Rattle.std.specs.Prelude.{◌≡◌, ℕ, ◌*◌, ◌<◌, ◌≤◌, pos, ◌+ℤ◌, ◌≤ℤ◌, None, unsigned_abs}
 use Rattle.lot.specs.Sum.{sum}
 use Rattle.lot.specs.Meaning.{Meaning, Cells, Prices, Admitted, Fitting, Quoted, Capped, no_cells, money, amount, surplus, lot_net}
 

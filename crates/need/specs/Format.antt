@@ -1,6 +1,6 @@
 -- The operands of a need's command, 35 bytes: area, side, elasticity, then for each quarter maximum and price,
 -- 4 bytes each, the price signed.
-use Rattle.std.specs.Prelude.{ℕ, ◌+◌, List, [], ◌∷◌, ◌++◌, Some, None, Ok, Err, Option, Result, slice_index}
+use Rattle.std.specs.Prelude.{ℕ, ◌+◌, List, [], ◌∷◌, ◌++◌, Some, None, Err, Option, Result, slice_index}
 use Rattle.byte_layer.specs.declared.fault.Told.{Told}
 use Rattle.byte_layer.specs.Number.{number, octets, signed_number, signed_octets}
 use Rattle.units.specs.declared.side.Side.{Side}

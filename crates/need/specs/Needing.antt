@@ -1,5 +1,5 @@
 -- A need as a lot of a single row. An upward need buys and a downward one sells.
-use Rattle.std.specs.Prelude.{ℕ, Bool, cond, not, ◌&&◌, ℤ, pos, ◌+ℤ◌, ◌*ℤ◌, neg_ℤ, int_le}
+use Rattle.std.specs.Prelude.{ℕ, cond, not, ◌&&◌, ℤ, pos, ◌+ℤ◌, ◌*ℤ◌, neg_ℤ, int_le}
 use Rattle.std.specs.Int.{int_max}
 use Rattle.units.specs.Limit.{cap}
 use Rattle.units.specs.declared.side.Side.{Side}

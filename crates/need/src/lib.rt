@@ -1,7 +1,7 @@
 #![tactic(auto)]
 
+pub mod as_lot;
 pub mod elasticity;
 pub mod fields;
 pub mod format;
 pub mod lawful;
-pub mod as_lot;

@@ -1,16 +1,13 @@
 -- What a reader has left after some rows.
-use Rattle.std.proofs.Common.{◌≡◌, ℕ, zero, suc, ◌+◌, ◌<◌, ◌≤◌, true, false, List, [], ◌∷◌, length, drop, Some, None, Ok, Err, Result, sym, refl, ap, ◌∙◌, zero-add, arith, length-drop}
+use Rattle.std.proofs.Common.{◌≡◌, ℕ, zero, suc, ◌+◌, ◌<◌, ◌≤◌, true, List, [], ◌∷◌, length, drop, Some, None, Ok, Err, Result, sym, refl, ap, ◌∙◌, zero-add, arith, length-drop}
 use Rattle.std.specs.List.{slice_get}
 use Rattle.std.proofs.lemmas.Option.{slice_get_past}
 use Rattle.std.proofs.lemmas.List.{drop-drop}
 use Rattle.byte_layer.specs.declared.fault.Told.{Told}
-use Rattle.byte_layer.specs.Fault.{heard}
 use Rattle.units.proofs.Judged.{no_err}
 use Rattle.book.specs.declared.check.Checked.{Checked}
-use Rattle.book.specs.declared.fault.BookFault.{BookFault}
 use Rattle.book.specs.declared.row.Row.{Row}
 use Rattle.book.specs.declared.stand.Stand.{Stand}
-use Rattle.book.specs.Fault.{told_book}
 use Rattle.book.specs.Stands.{begin}
 use Rattle.book.specs.Reading.{step_of, push, ends, read_rows, decoded, checked, rows_of, rows_in}
 use Rattle.book.proofs.Steps.{push_ok, reads_count}

@@ -1,9 +1,9 @@
 -- A book's first order, and the orders after it.
-use Rattle.std.proofs.Common.{◌≡◌, ℕ, zero, suc, ◌+◌, ◌<◌, ◌≤◌, Bool, true, false, cond, eqb, List, [], ◌∷◌, ◌++◌, map, length, take, drop, Some, None, Ok, Err, Option, Result, sym, refl, ap, ◌∙◌, subst, ap₂, arith, length-append}
+use Rattle.std.proofs.Common.{◌≡◌, ℕ, ◌<◌, false, eqb, List, [], ◌∷◌, ◌++◌, map, length, take, drop, Some, Ok, Option, Result, sym, refl, ap, ◌∙◌, subst, ap₂, arith, length-append}
 use Rattle.std.proofs.lemmas.Bool.{eq-eqb, both_ways}
 use Rattle.byte_layer.specs.declared.fault.Told.{Told}
 use Rattle.lot.specs.Join.{join, together, Parted}
-use Rattle.lot.specs.Single.{Single, exclusive}
+use Rattle.lot.specs.Single.{exclusive}
 use Rattle.bid.specs.declared.fields.BidFields.{BidFields}
 use Rattle.bid.specs.declared.lawful.Bid.{Bid}
 use Rattle.bid.specs.Bidding.{bidding}
@@ -15,7 +15,7 @@ use Rattle.book.specs.declared.stand.Stand.{Stand}
 use Rattle.book.specs.Stands.{onward, group_on, closed, member_on, after}
 use Rattle.book.proofs.Steps.{cond_case}
 use Rattle.group.specs.Group.{member_of, grouping}
-use Rattle.sealed.specs.Lot.{Filed, bid, group, need, border, bids_among, filed, filed_meaning, book_meaning, is_group}
+use Rattle.sealed.specs.Lot.{Filed, bid, need, border, bids_among, filed, filed_meaning, book_meaning, is_group}
 use Rattle.sealed.specs.Members.{bid_rows, Begun}
 
 -- ---- where a reader stands

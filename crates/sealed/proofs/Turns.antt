@@ -19,13 +19,13 @@ use Rattle.book.specs.declared.command.Command.TheVariants as command
 use Rattle.book.specs.declared.row.Row.{Row}
 use Rattle.book.specs.declared.row.Row.TheVariants as kind
 use Rattle.book.specs.declared.stand.Stand.{Stand}
-use Rattle.book.specs.Command.{is_bid, is_seal}
+use Rattle.book.specs.Command.{is_bid}
 use Rattle.book.specs.Rows.{command_of, row_size, rowed, row_read, row_judged}
 use Rattle.book.specs.Writing.{Runs, none, more, Written}
 use Rattle.book.specs.Stands.{fresh, begin, onward, member_on, closed, after}
-use Rattle.book.specs.Reading.{step_of, push, stepped, read_rows, decoded, ends, checked, rows_of, rows_in}
+use Rattle.book.specs.Reading.{step_of, push, read_rows, decoded, ends, checked, rows_of, rows_in}
 use Rattle.book.proofs.Trip.{seal_is}
-use Rattle.book.proofs.Steps.{cond_case, no_none, step_took, step_moves, row_has, step_ended, reads_seal, reads_fault}
+use Rattle.book.proofs.Steps.{cond_case, no_none, step_moves, row_has, step_ended, reads_seal, reads_fault}
 use Rattle.sealed.specs.Book.{passes}
 use Rattle.sealed.specs.Lot.{lawful_row, lawful_rows}
 use Rattle.sealed.specs.Ahead.{reads, reads_on, ahead}

@@ -1,5 +1,5 @@
 -- A book as a lot: its rows joined in order. A group's row is a row without cells, and its members are the rows after it.
-use Rattle.std.specs.Prelude.{ℕ, Bool, true, false, ◌&&◌, List, [], ◌∷◌, map, take, drop}
+use Rattle.std.specs.Prelude.{Bool, true, false, ◌&&◌, List, [], ◌∷◌, map, take, drop}
 use Rattle.units.specs.Limit.{is_area}
 use Rattle.lot.specs.Meaning.{Meaning}
 use Rattle.lot.specs.Join.{together}

@@ -4,8 +4,8 @@ ghost use Rattle.sealed.specs.Ahead.{ahead};
 ghost use Rattle.sealed.specs.Lot.{book_meaning};
 ghost use Rattle.sealed.specs.Laws.Books.{book_duties, orders_end};
 
-use crate::sealed_book::SealedBook;
 use crate::orders::Orders;
+use crate::sealed_book::SealedBook;
 use joined::chain::Chain;
 use joined::chained::Chained;
 use lot::lot::Lot;

@@ -5,8 +5,8 @@ ghost use Rattle.book.specs.Stands.{begin, after};
 ghost use Rattle.book.specs.Reading.{step_of, rows_in};
 ghost use Rattle.sealed.specs.Ahead.{ahead};
 
-use crate::sealed_book::SealedBook;
 use crate::rows::Rows;
+use crate::sealed_book::SealedBook;
 use book::row::Row;
 use book::stand::Stand;
 use book::step::step;

@@ -1,5 +1,5 @@
 -- Areas, quantities and prices. A quantity counts units of 0.1 MW, a price cents per MWh.
-use Rattle.std.specs.Prelude.{ℕ, Bool, true, false, ◌&&◌, ℤ, pos, negsuc, neg_ℤ, ◌==◌, int_le, nat_le}
+use Rattle.std.specs.Prelude.{ℕ, Bool, false, ◌&&◌, ℤ, pos, negsuc, neg_ℤ, ◌==◌, int_le, nat_le}
 
 -- the last of the areas, which are numbered from 0
 abbrev pub last_area : ℕ

@@ -1,16 +1,16 @@
 -- What a writer's tests tell.
-use Rattle.std.proofs.Common.{◌≡◌, ℕ, ◌+◌, ◌<◌, ◌≤◌, Bool, true, false, cond, leb, Some, None, Ok, Err, Option, Result, sym, refl, ap, ◌∙◌, subst, arith, le-leb, leb-false, leb-true}
+use Rattle.std.proofs.Common.{◌≡◌, ℕ, ◌+◌, ◌<◌, ◌≤◌, Bool, true, false, leb, Some, Ok, Err, Option, Result, sym, refl, ap, ◌∙◌, leb-false, leb-true}
 use borrow.Author.Tests.{lt-leb}
 use Rattle.byte_layer.specs.declared.fault.Told.{Told}
 use Rattle.byte_layer.specs.Fault.{fault}
 use Rattle.units.specs.Limit.{is_area}
 use Rattle.units.specs.Field.{judged}
-use Rattle.units.proofs.Judged.{no_err, Taken, judged_ok}
+use Rattle.units.proofs.Judged.{no_err}
 use Rattle.bid.specs.declared.fields.BidFields.{BidFields}
-use Rattle.bid.specs.Fields.{bid_judged, bid_fine}
+use Rattle.bid.specs.Fields.{bid_fine}
 use Rattle.bid.specs.Group.{group_fine, same_area}
-use Rattle.need.specs.Fields.{need_judged, need_fine}
-use Rattle.border.specs.Fields.{border_judged, border_placed, border_fine}
+use Rattle.need.specs.Fields.{need_fine}
+use Rattle.border.specs.Fields.{border_placed, border_fine}
 use Rattle.book.specs.declared.row.Row.{Row}
 use Rattle.book.specs.declared.row.Row.TheVariants as kind
 use Rattle.book.specs.Fault.{most_rows}

@@ -1,9 +1,7 @@
 -- What a writer's calls make of a text that holds rows.
-use Rattle.std.proofs.Common.{◌≡◌, ℕ, ◌+◌, ◌-◌, ◌<◌, ◌≤◌, Bool, true, false, cond, not, ◌&&◌, eqb, ltb, leb, List, [], ◌∷◌, ◌++◌, length, IfOk, Some, None, Ok, Err, Option, Result, unwrap_or, sym, refl, ap, ◌∙◌, subst, ⊎_elim, append_assoc, arith, eq-eqb, ne_eqb, leb-false, leb-true, MatchResult}
+use Rattle.std.proofs.Common.{◌≡◌, ℕ, ◌+◌, ◌-◌, ◌<◌, ◌≤◌, Bool, true, false, cond, ◌&&◌, ltb, leb, List, [], ◌∷◌, ◌++◌, length, IfOk, Some, None, Ok, Err, Option, Result, unwrap_or, sym, refl, subst, ⊎_elim, append_assoc, arith, eq-eqb, ne_eqb, leb-false, leb-true, MatchResult}
 use Rattle.std.proofs.lemmas.Bool.{and_parts}
 use Rattle.std.proofs.lemmas.Bool.Decides.{leb_tells}
-use Rattle.byte_layer.specs.declared.fault.Told.{Told}
-use Rattle.byte_layer.specs.Number.{placed}
 use Rattle.byte_layer.specs.Fault.{fault}
 use Rattle.units.specs.Field.{judged}
 use Rattle.units.proofs.Judged.{no_err}
@@ -12,9 +10,9 @@ use Rattle.bid.specs.Group.{group_fine, same_area}
 use Rattle.book.specs.declared.row.Row.{Row}
 use Rattle.book.specs.declared.row.Row.TheVariants as kind
 use Rattle.book.specs.declared.stand.Stand.{Stand}
-use Rattle.book.specs.Rows.{row_size, row_bytes, rowed, row_judged, Four}
+use Rattle.book.specs.Rows.{row_bytes, rowed, row_judged, Four}
 use Rattle.book.specs.Stands.{fresh, onward, group_on, after}
-use Rattle.book.specs.Writing.{Files, Begins}
+use Rattle.book.specs.Writing.{Begins}
 use Rattle.book.proofs.Trip.{begins_more, begins_stays}
 use Rattle.writer.specs.declared.state.OpenBook.{OpenBook}
 use Rattle.writer.specs.declared.state.GroupUnderway.{GroupUnderway}
@@ -23,10 +21,10 @@ use Rattle.writer.specs.declared.state.Begun.{Begun}
 use Rattle.writer.specs.declared.state.Joined.{Joined}
 use Rattle.writer.specs.declared.state.Membership.{Membership}
 use Rattle.writer.specs.declared.state.Membership.TheVariants.{More, Last}
-use Rattle.writer.specs.Admit.{admitted, joined}
+use Rattle.writer.specs.Admit.{admitted}
 use Rattle.writer.specs.Calls.{RowFiled, GroupBegun, member_next, MemberFiled}
 use Rattle.writer.specs.Holding.{opened, underway, Holds, Owes, HoldsNext}
-use Rattle.writer.proofs.Admits.{Passes, passes, joins}
+use Rattle.writer.proofs.Admits.{passes, joins}
 
 pub cases_made : {X Y : Type 0} (r : Result X Y) (P R : X → Type 0) (Q : Y → Type 0) → MatchResult r P Q → ((x : X) → P x → R x) → IfOk r R
 cases_made (Ok x) P R Q p f = f x p

@@ -1,5 +1,5 @@
 -- What a writer refuses: 22, 23, 24, 26, 25, tried in this order.
-use Rattle.std.specs.Prelude.{ℕ, ◌+◌, Bool, cond, Ok, Err, Option, Result, nat_le}
+use Rattle.std.specs.Prelude.{ℕ, ◌+◌, cond, Ok, Err, Option, Result, nat_le}
 use Rattle.byte_layer.specs.declared.fault.Told.{Told}
 use Rattle.byte_layer.specs.Fault.{fault}
 use Rattle.bid.specs.declared.fields.BidFields.{BidFields}

@@ -1,18 +1,17 @@
 -- A lawful bid keeps the duties of a lot: its best is the greatest surplus over all its admitted cells.
-use Rattle.std.specs.Prelude.{◌≡◌, ℕ, zero, suc, ◌+◌, ◌*◌, ◌<◌, ◌≤◌, Bool, true, false, cond, ◌&&◌, ◌||◌, ◌⊎◌, List, ℤ, pos, ◌+ℤ◌, ◌-ℤ◌, ◌*ℤ◌, neg_ℤ, ◌≤ℤ◌, ◌<ℤ◌, int_le, nat_le, nat_lt, unsigned_abs, refl}
+use Rattle.std.specs.Prelude.{◌≡◌, ℕ, ◌*◌, ◌<◌, ◌≤◌, true, cond, ◌&&◌, List, ℤ, pos, ◌+ℤ◌, ◌*ℤ◌, ◌≤ℤ◌, ◌<ℤ◌, int_le, nat_le, nat_lt, unsigned_abs, refl}
 use Rattle.std.proofs.Math.Path.{sym}
-use Rattle.std.proofs.Common.{ap, ◌∙◌, subst, inl, inr, ⊎_elim, arith, le_trans, lit<, lit≤}
-use Rattle.std.proofs.Math.IntN.{zero-*ℤ, *ℤ_comm, *ℤ-zero}
-use Rattle.std.specs.Int.Signed.{≤ℤ_refl}
+use Rattle.std.proofs.Common.{ap, ◌∙◌, subst, ⊎_elim, arith, lit<}
+use Rattle.std.proofs.Math.IntN.{zero-*ℤ, *ℤ_comm}
 use Rattle.std.specs.Int.{int_max}
 use Rattle.std.proofs.lemmas.Int.{ints, clamps, by_lt_z}
 use Rattle.std.proofs.lemmas.Bool.{and_parts, and_from, or_cases, or_left, or_right, leb-true, ltb-true, cond_below, cond-false, le-ltb}
-use Rattle.units.specs.Limit.{is_area, is_quantity, is_price, is_zero, most_quantity, cap}
+use Rattle.units.specs.Limit.{is_area, is_quantity, is_price, most_quantity, cap}
 use Rattle.lot.specs.Sum.{sum, every, same_z}
-use Rattle.lot.specs.Meaning.{Prices, Capped, money}
+use Rattle.lot.specs.Meaning.{Prices, money}
 use Rattle.lot.specs.Duties.{most_money}
-use Rattle.lot.specs.Single.{Single, idle_row}
-use Rattle.lot.specs.Trade.{Trade, trade_net, trade_worth, gain}
+use Rattle.lot.specs.Single.{idle_row}
+use Rattle.lot.specs.Trade.{trade_net, trade_worth, gain}
 use Rattle.lot.specs.Laws.Ring.{mul_assoc, mul_le_mul_nonneg, le_of_mul_le_mul_pos, abs_mul_le}
 use Rattle.lot.specs.Laws.Sums.{sum_same, sum_zero, sum_times, sum_within, every_true, every_from, each_four}
 use Rattle.lot.specs.Laws.Tests.{le_of_test, test_of_le, same_of_test, test_of_same, idle_cells, cells_idle}

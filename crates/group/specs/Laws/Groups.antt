@@ -1,10 +1,10 @@
 -- A group of lawful bids keeps the duties of a lot.
-use Rattle.std.specs.Prelude.{◌≡◌, ℕ, suc, ◌+◌, List, [], ◌∷◌, map, length, refl}
-use Rattle.std.proofs.Common.{sym, ap, ◌∙◌, subst}
+use Rattle.std.specs.Prelude.{◌≡◌, List, [], ◌∷◌, map, refl}
+use Rattle.std.proofs.Common.{ap}
 use Rattle.std.specs.List.{AllByRecursion as All}
 use Rattle.lot.specs.Duties.{Duties}
 use Rattle.lot.specs.Join.{join, blank, together}
-use Rattle.lot.specs.Single.{Single, single, headed}
+use Rattle.lot.specs.Single.{single, headed}
 use Rattle.lot.specs.Laws.Singles.{SingleDuties}
 use Rattle.lot.specs.Laws.Exclusives.{group_duties}
 use Rattle.bid.specs.declared.lawful.Bid.{Bid}

@@ -1,5 +1,5 @@
 -- An exclusive group of rows keeps the five duties: its best is the largest of its members', and not their sum.
-use Rattle.std.specs.Prelude.{◌≡◌, ℕ, zero, suc, ◌+◌, ◌-◌, ◌*◌, ◌<◌, ◌≤◌, Bool, true, false, cond, not, leb, List, [], ◌∷◌, length, ℤ, pos, ◌+ℤ◌, ◌≤ℤ◌, ◌<ℤ◌, Some, None, Option}
+use Rattle.std.specs.Prelude.{◌≡◌, ℕ, suc, ◌+◌, ◌*◌, ◌<◌, ◌≤◌, Bool, true, false, cond, not, List, [], ◌∷◌, length, ℤ, pos, ◌+ℤ◌, ◌≤ℤ◌, ◌<ℤ◌, Some, None}
 use Rattle.std.proofs.Math.Path.{refl, ap, ap₂, subst, fun_ext}
 use Rattle.std.proofs.Common.{sym, ◌∙◌, ⊎_elim}
 use native.Mathlib.Omega.{arith}
@@ -9,16 +9,16 @@ use Rattle.std.specs.Int.{int_max}
 use Rattle.std.specs.List.{AllByRecursion as All}
 use Rattle.std.proofs.lemmas.Int.{ints, clamps, by_lt_z}
 use Rattle.std.proofs.lemmas.Bool.{cases_lt, cases_Bool, leb-true, le-leb}
-use Rattle.lot.specs.Sum.{sum, count, beside}
-use Rattle.lot.specs.Meaning.{Meaning, Cells, Prices, Table, Admitted, Quoted, Capped, cell_rows, no_cells, money, amount, surplus}
-use Rattle.lot.specs.Duties.{most_lot_rows, most_money, Idle, Reach, Greatest, Settled, Unharmed, Bounded, Limited, Duties}
-use Rattle.lot.specs.Parts.{front, shift, first_named, group_named}
+use Rattle.lot.specs.Sum.{count, beside}
+use Rattle.lot.specs.Meaning.{Meaning, Cells, Prices, Table, Admitted, Capped, cell_rows, no_cells, money, surplus}
+use Rattle.lot.specs.Duties.{most_lot_rows, most_money, Idle, Greatest, Unharmed, Limited, Duties}
+use Rattle.lot.specs.Parts.{front, shift, group_named}
 use Rattle.lot.specs.Join.{join, blank, nothing, together}
 use Rattle.lot.specs.Single.{Single, single, idle_row, at_most_one, largest, headed, exclusive}
-use Rattle.lot.specs.Laws.Sums.{count_split, count_none, count_zero, count_same, beside_below, beside_past}
-use Rattle.lot.specs.Laws.Tables.{front_none, front_beside, shift_none, shift_beside, table_none, table_beside, table_shift}
-use Rattle.lot.specs.Laws.Named.{named_none, group_named_none, group_named_own, fits_first, fits_second}
-use Rattle.lot.specs.Laws.Joins.{settled_always, join_duties, bounded_like, blank_surplus, blank_duties, blank_cells, together_duties, cell_rows_join, surplus_join, admits_low, admits_high, idle_surplus, money_zero}
+use Rattle.lot.specs.Laws.Sums.{count_split, count_none, count_zero, beside_below}
+use Rattle.lot.specs.Laws.Tables.{front_none, shift_none, shift_beside, table_none, table_beside, table_shift}
+use Rattle.lot.specs.Laws.Named.{named_none, group_named_none, group_named_own}
+use Rattle.lot.specs.Laws.Joins.{settled_always, join_duties, bounded_like, blank_surplus, blank_duties, blank_cells, cell_rows_join, surplus_join, admits_low, admits_high, idle_surplus, money_zero}
 use Rattle.lot.specs.Laws.Tests.{idle_cells, cells_idle}
 use Rattle.lot.specs.Laws.Singles.{SingleDuties, no_power, single_duties, single_cells, single_surplus, single_idle, single_admits, named_not}
 

@@ -1,18 +1,16 @@
 -- Two lots as one keep the duties, and the best surplus at any prices is a ceiling on welfare.
-use Rattle.std.specs.Prelude.{◌≡◌, ℕ, ◌+◌, ◌-◌, ◌*◌, ◌<◌, ◌≤◌, false, List, [], ◌∷◌, ℤ, pos, ◌+ℤ◌, ◌*ℤ◌, ◌≤ℤ◌, Some, None, Option, unsigned_abs, refl}
-use Rattle.std.proofs.Common.{sym, ap, ap₂, ◌∙◌, subst, subst₂, arith, ⊎_elim}
-use Rattle.std.proofs.Math.Path.{fun_ext}
+use Rattle.std.specs.Prelude.{◌≡◌, ℕ, ◌+◌, ◌<◌, ◌≤◌, false, List, [], ◌∷◌, ℤ, pos, ◌+ℤ◌, ◌*ℤ◌, ◌≤ℤ◌, unsigned_abs, refl}
+use Rattle.std.proofs.Common.{sym, ap, ap₂, ◌∙◌, subst, subst₂, arith}
 use Rattle.std.proofs.Math.IntN.{zero-*ℤ}
 use Rattle.std.proofs.lemmas.Int.{ints}
-use Rattle.std.proofs.lemmas.Bool.{cases_lt, cond_both}
-use Rattle.lot.specs.Sum.{sum, count, beside}
-use Rattle.lot.specs.Meaning.{Meaning, Cells, Prices, Table, Admitted, Fitting, Quoted, Capped, Feasible, cell_rows, no_cells, money, amount, surplus, welfare, lot_net}
-use Rattle.lot.specs.Duties.{most_lot_rows, most_power, most_money, Idle, Reach, Greatest, Settled, Unharmed, Bounded, Limited, Duties}
-use Rattle.lot.specs.Parts.{front, shift, first_named}
-use Rattle.lot.specs.Join.{join, blank, nothing, together}
+use Rattle.lot.specs.Sum.{sum, beside}
+use Rattle.lot.specs.Meaning.{Meaning, Cells, Prices, Table, Admitted, Quoted, Feasible, cell_rows, no_cells, money, amount, surplus, welfare, lot_net}
+use Rattle.lot.specs.Duties.{most_lot_rows, most_power, most_money, Idle, Greatest, Settled, Unharmed, Bounded, Limited, Duties}
+use Rattle.lot.specs.Parts.{front, shift}
+use Rattle.lot.specs.Join.{join, blank, together}
 use Rattle.lot.specs.Laws.Tables.{front_none, front_beside, shift_none, shift_beside, table_none, table_beside}
 use Rattle.lot.specs.Laws.Named.{named_left, named_right, named_none, fits_first, fits_second}
-use Rattle.lot.specs.Laws.Sums.{sum_same, sum_zero, sum_add, sum_swap, sum_times, sum_beside, count_none, each_beside, beside_below, beside_past, beside_above, count_beside}
+use Rattle.lot.specs.Laws.Sums.{sum_same, sum_zero, sum_add, sum_swap, sum_times, sum_beside, count_none, each_beside, beside_below, beside_past, count_beside}
 
 -- ---- money
 pub money_same : (x y : ℕ → ℕ → ℤ) (p : Prices) → ((a t : ℕ) → a < 32 → t < 4 → x a t ≡ y a t) → money x p ≡ money y p

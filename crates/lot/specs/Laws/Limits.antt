@@ -1,9 +1,9 @@
 -- What the tests of areas, quantities and prices say.
-use Rattle.std.specs.Prelude.{◌≡◌, ℕ, ◌<◌, ◌≤◌, true, ℤ, pos, neg_ℤ, ◌≤ℤ◌, int_le, unsigned_abs}
+use Rattle.std.specs.Prelude.{◌≡◌, ℕ, ◌<◌, ◌≤◌, true, ℤ, pos, neg_ℤ, int_le, unsigned_abs}
 use Rattle.std.proofs.Common.{arith}
 use Rattle.std.proofs.lemmas.Int.{ints}
 use Rattle.std.proofs.lemmas.Bool.{and_parts, leb-true}
-use Rattle.units.specs.Limit.{is_area, is_quantity, is_price, is_zero, last_area, most_quantity, cap}
+use Rattle.units.specs.Limit.{is_area, is_quantity, is_price, last_area, most_quantity, cap}
 
 pub area_inside : (a : ℕ) → is_area a ≡ true → a < 32
 unfolding is_area

@@ -1,9 +1,9 @@
 -- Laws of the integers: the ring, its order, and sizes of products.
 use Rattle.std.specs.Prelude.{◌≡◌, ℕ, zero, suc, ◌+◌, ◌*◌, ◌<◌, ◌≤◌, ℤ, pos, negsuc, ◌+ℤ◌, ◌-ℤ◌, ◌*ℤ◌, neg_ℤ, ◌≤ℤ◌, ◌<ℤ◌, unsigned_abs, refl}
 use Rattle.std.proofs.Common.{arith, mul-le-mul_left, mul-le-mul, sym, ap, ◌∙◌, subst}
-use Rattle.std.proofs.Math.Nat.{le_of_mul-le-mul_left, eq_of_mul-eq-mul_left}
+use Rattle.std.proofs.Math.Nat.{le_of_mul-le-mul_left}
 use Rattle.std.proofs.Math.IntN.{*ℤ_comm}
-use borrow.Author.Differences.{up, down, ints, same_in, product_is, sum_is_lem, neg_is, le_out, lt_out}
+use borrow.Author.Differences.{up, down, ints, product_is, sum_is_lem, neg_is, le_out}
 
 pub add_mul : (a b c : ℤ) → (a +ℤ b) *ℤ c ≡ a *ℤ c +ℤ b *ℤ c
 add_mul a b c =

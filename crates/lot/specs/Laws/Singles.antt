@@ -1,10 +1,10 @@
 -- What a single row owes, and that the lot of that row then keeps the five duties.
-use Rattle.std.specs.Prelude.{◌≡◌, ℕ, zero, suc, ◌+◌, ◌*◌, ◌<◌, ◌≤◌, Bool, true, false, cond, ℤ, pos, ◌+ℤ◌, ◌≤ℤ◌, Some, None, Option, unsigned_abs}
+use Rattle.std.specs.Prelude.{◌≡◌, ℕ, ◌<◌, ◌≤◌, Bool, true, false, cond, ℤ, pos, ◌+ℤ◌, ◌≤ℤ◌, Some, None, Option, unsigned_abs}
 use Rattle.std.proofs.Math.Path.{refl, subst}
 use Rattle.std.proofs.Common.{sym, ap, ◌∙◌, arith}
 use Rattle.std.proofs.lemmas.Int.{ints}
 use Rattle.lot.specs.Sum.{sum, count, beside}
-use Rattle.lot.specs.Meaning.{Meaning, Cells, Prices, Table, Admitted, Quoted, Capped, cell_rows, no_cells, money, amount, surplus}
+use Rattle.lot.specs.Meaning.{Cells, Prices, Table, Admitted, Capped, cell_rows, no_cells, money, surplus}
 use Rattle.lot.specs.Duties.{most_power, most_money, Idle, Greatest, Unharmed, Limited, Duties}
 use Rattle.lot.specs.Single.{Single, single}
 use Rattle.lot.specs.Laws.Sums.{sum_one, beside_below}

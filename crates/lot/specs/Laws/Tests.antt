@@ -1,11 +1,11 @@
 -- What tests of integers say.
-use Rattle.std.specs.Prelude.{◌≡◌, ℕ, ◌<◌, ◌≤◌, Bool, true, false, ◌&&◌, T, ℤ, pos, negsuc, ◌≤ℤ◌, int_le, refl}
+use Rattle.std.specs.Prelude.{◌≡◌, ℕ, ◌<◌, Bool, true, false, T, ℤ, pos, negsuc, ◌≤ℤ◌, int_le, refl}
 use Rattle.std.proofs.Common.{sym, ap, subst, arith}
 use Rattle.std.specs.Int.Signed.{≤ℤ_refl}
 use Rattle.std.proofs.lemmas.Int.{ints}
-use Rattle.std.proofs.lemmas.Bool.{and_parts, and_from, eqb-true, eq-eqb}
+use Rattle.std.proofs.lemmas.Bool.{and_parts, and_from, eqb-true}
 use Rattle.units.specs.Limit.{is_zero}
-use Rattle.lot.specs.Sum.{every, same_z}
+use Rattle.lot.specs.Sum.{same_z}
 use Rattle.lot.specs.Single.{idle_row}
 use Rattle.lot.specs.Laws.Sums.{every_true, every_from}
 

@@ -1,5 +1,5 @@
 -- A lawful need keeps the duties of a lot: its best is the greatest surplus over all its admitted cells.
-use Rattle.std.specs.Prelude.{◌≡◌, ℕ, zero, suc, ◌+◌, ◌*◌, ◌<◌, ◌≤◌, Bool, true, false, cond, ◌&&◌, List, ℤ, pos, ◌+ℤ◌, ◌-ℤ◌, ◌*ℤ◌, neg_ℤ, ◌≤ℤ◌, ◌<ℤ◌, int_le, nat_lt, unsigned_abs}
+use Rattle.std.specs.Prelude.{◌≡◌, ℕ, ◌*◌, ◌<◌, ◌≤◌, Bool, true, false, cond, ◌&&◌, List, ℤ, pos, ◌+ℤ◌, ◌*ℤ◌, ◌≤ℤ◌, int_le, nat_lt, unsigned_abs}
 use Rattle.std.proofs.Math.Path.{refl, sym}
 use Rattle.std.proofs.Common.{ap, ◌∙◌, subst, arith, lit≤}
 use Rattle.std.proofs.Math.IntN.{zero-*ℤ, *ℤ-zero}
@@ -10,11 +10,10 @@ use Rattle.std.proofs.lemmas.Bool.{and_parts, and_from, cond_below, cond-false, 
 use Rattle.units.specs.declared.side.Side.{Side}
 use Rattle.units.specs.declared.side.Side.TheVariants.{Upward, Downward}
 use Rattle.units.specs.Limit.{is_area, is_quantity, is_price, most_quantity, cap}
-use Rattle.lot.specs.Sum.{sum, every}
+use Rattle.lot.specs.Sum.{sum}
 use Rattle.lot.specs.Meaning.{Prices, Capped, money}
 use Rattle.lot.specs.Duties.{most_money}
-use Rattle.lot.specs.Single.{Single}
-use Rattle.lot.specs.Trade.{Trade, trade_net, trade_worth, quarter_worth, quarter_amount, gain}
+use Rattle.lot.specs.Trade.{trade_net, trade_worth, quarter_worth, quarter_amount, gain}
 use Rattle.lot.specs.Laws.Ring.{mul_le_mul_nonneg, abs_mul_le}
 use Rattle.lot.specs.Laws.Sums.{sum_same, sum_zero, sum_le, sum_within, every_true, every_from, each_four}
 use Rattle.lot.specs.Laws.Tests.{le_of_test, test_of_le}

@@ -1,17 +1,14 @@
 -- A book of lawful rows keeps the duties of a lot.
-use Rattle.std.specs.Prelude.{◌≡◌, ℕ, zero, suc, Bool, true, ◌&&◌, List, [], ◌∷◌, map, length, take, drop, refl}
+use Rattle.std.specs.Prelude.{◌≡◌, ℕ, zero, suc, true, List, [], ◌∷◌, map, length, take, drop, refl}
 use Rattle.std.proofs.Common.{◌∙◌, arith}
 use Rattle.std.specs.List.{AllByRecursion as All}
 use Rattle.std.proofs.lemmas.Bool.{and_parts}
 use Rattle.units.specs.Limit.{is_area}
-use Rattle.lot.specs.Meaning.{Meaning}
 use Rattle.lot.specs.Duties.{Duties}
 use Rattle.lot.specs.Join.{nothing, together}
-use Rattle.lot.specs.Single.{single}
 use Rattle.lot.specs.Laws.Joins.{join_duties, blank_duties}
 use Rattle.lot.specs.Laws.Singles.{SingleDuties, single_duties}
 use Rattle.lot.specs.Laws.Exclusives.{group_duties}
-use Rattle.bid.specs.declared.fields.BidFields.{BidFields}
 use Rattle.bid.specs.Fields.{bid_fine}
 use Rattle.bid.specs.Bidding.{bidding}
 use Rattle.bid.specs.Laws.Bids.{bid_duties}

@@ -1,8 +1,8 @@
-use Rattle.std.proofs.Common.{◌≡◌, ℕ, ◌+◌, ◌<◌, ◌≤◌, Bool, true, false, ◌&&◌, length, nat_eq, sym, refl, ap, ◌∙◌, subst, arith}
+use Rattle.std.proofs.Common.{◌≡◌, ℕ, Bool, true, false, ◌&&◌, length, nat_eq, sym, refl, ap, ◌∙◌, arith}
 use Rattle.std.proofs.lemmas.Bool.{eq-eqb}
 use Rattle.units.specs.Limit.{is_price}
 use Rattle.lot.specs.Sum.{every}
-use Rattle.lot.specs.Page.{table_of, at, four}
+use Rattle.lot.specs.Page.{table_of, at}
 use Rattle.lot.specs.Laws.Sums.{every_false}
 use Rattle.asked.proofs.Pricing.{four_priced, every_more}
 use Rattle.asked.proofs.may.may_price.Goals as goal

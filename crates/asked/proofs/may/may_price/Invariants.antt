@@ -1,4 +1,4 @@
-use Rattle.std.proofs.Common.{◌≡◌, ℕ, true}
+use Rattle.std.proofs.Common.{◌≡◌, true}
 use Rattle.units.specs.Limit.{is_price}
 use Rattle.lot.specs.Sum.{every}
 use Rattle.lot.specs.Page.{table_of}

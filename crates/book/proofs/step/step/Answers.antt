@@ -2,8 +2,8 @@ use Rattle.std.proofs.Common.{◌≡◌, Some, None, Ok, Err, sym, ap, ◌∙◌
 use Rattle.std.proofs.lemmas.Result.{err_from_is_err_and}
 use Rattle.byte_layer.specs.Fault.{heard, told_byte}
 use Rattle.book.specs.Fault.{told_book}
-use Rattle.book.specs.Command.{command_at, command_size}
-use Rattle.book.specs.Rows.{row_read, row_size}
+use Rattle.book.specs.Command.{command_at}
+use Rattle.book.specs.Rows.{row_read}
 use Rattle.book.specs.Reading.{step_of}
 use Rattle.book.proofs.Steps.{command_size_lem, row_size_lem}
 use Rattle.book.proofs.step.step.Goals as goal

@@ -1,4 +1,4 @@
-use Rattle.std.proofs.Common.{◌≡◌, ℕ, ◌<◌, ◌≤◌, List, [], ◌∷◌, length, get_or, sym, ap, arith, lit<}
+use Rattle.std.proofs.Common.{ℕ, ◌≤◌, List, [], ◌∷◌, length, arith, lit<}
 use Rattle.byte_layer.specs.Number.{Octets}
 use Rattle.byte_layer.proofs.number.are_octets.Goals as goal
 

@@ -1,4 +1,4 @@
-use Rattle.std.proofs.Common.{lit<, lit≤}
+use Rattle.std.proofs.Common.{lit≤}
 use Rattle.lot.proofs.Machine.{within_more, term_within, term_is}
 use Rattle.lot.proofs.Alone.{best_of_lem}
 use Rattle.need.proofs.as_lot.most_earned.Goals as goal

@@ -1,13 +1,12 @@
-use Rattle.std.proofs.Common.{◌≡◌, true, sym, ap, ◌∙◌}
+use Rattle.std.proofs.Common.{◌≡◌, sym, ap, ◌∙◌}
 use Rattle.units.specs.Limit.{is_area}
 use Rattle.units.proofs.Judged.{judged_ok}
 use Rattle.bid.specs.Fields.{bid_fine}
 use Rattle.need.specs.Fields.{need_fine}
 use Rattle.border.specs.Fields.{border_placed, border_fine}
-use Rattle.book.specs.declared.row.Row.{Row}
 use Rattle.book.specs.declared.row.Row.TheVariants as kind
-use Rattle.sealed.specs.Lot.{bid, need, border, is_group, lawful_row}
-use Rattle.sealed.proofs.Turns.{refused_lawful, no_member}
+use Rattle.sealed.specs.Lot.{bid, need, border, lawful_row}
+use Rattle.sealed.proofs.Turns.{refused_lawful}
 use Rattle.sealed.proofs.Splitting.{row_parts, filed_bid, filed_need, filed_border}
 use Rattle.sealed.proofs.split.single_order.Goals as goal
 

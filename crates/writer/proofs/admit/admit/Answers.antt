@@ -1,9 +1,8 @@
-use Rattle.std.proofs.Common.{◌≡◌, ℕ, Some, Ok, Err, Result, sym, ap, ◌∙◌, rules}
+use Rattle.std.proofs.Common.{ℕ, Some, Err, Result, sym, ap, ◌∙◌, rules}
 use Rattle.std.proofs.lemmas.Result.{err_from_is_err_and}
 use Rattle.byte_layer.specs.Fault.{heard}
 use Rattle.book.specs.declared.fault.BookFault.{BookFault}
 use Rattle.book.specs.Fault.{told_book}
-use Rattle.book.specs.Rows.{row_judged, row_size}
 use Rattle.writer.specs.declared.lawful.LawfulRow.{LawfulRow}
 use Rattle.writer.specs.Admit.{roomed, admitted}
 use Rattle.writer.specs.Lawful.{row_of, row_in}

@@ -1,4 +1,4 @@
-use Rattle.std.proofs.Common.{ap, ◌∙◌, ap₂, w64, rules}
+use Rattle.std.proofs.Common.{◌∙◌, ap₂, w64, rules}
 use Rattle.std.proofs.lemmas.Int.{to_z-of_z}
 use Rattle.lot.specs.Page.{table_of}
 use Rattle.lot.specs.Trade.{trade_worth}

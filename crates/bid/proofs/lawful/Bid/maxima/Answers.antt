@@ -1,4 +1,4 @@
-use Rattle.std.proofs.Common.{ℕ, ◌<◌, pos, sym, subst, arith, lit<, w32, SFits}
+use Rattle.std.proofs.Common.{ℕ, ◌<◌, sym, subst, arith, lit<, w32, SFits}
 use Rattle.std.proofs.lemmas.Int.{ints}
 use Rattle.lot.specs.Page.{AllWithin}
 use Rattle.lot.proofs.Machine.{four_back, all_within}

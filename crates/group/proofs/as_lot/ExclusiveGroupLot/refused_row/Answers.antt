@@ -1,4 +1,4 @@
-use Rattle.std.proofs.Common.{◌≡◌, ◌*◌, ◌≤◌, true, false, length, take, sym, ap, ◌∙◌, subst}
+use Rattle.std.proofs.Common.{◌*◌, ◌≤◌, true, false, length, take, sym, ap, subst}
 use Rattle.group.proofs.Members.{sized_rows, long_rows, named_member, named_own}
 use Rattle.group.proofs.as_lot.ExclusiveGroupLot.refused_row.Goals as goal
 

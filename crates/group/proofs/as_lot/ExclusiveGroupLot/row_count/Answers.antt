@@ -1,5 +1,4 @@
 use Rattle.std.proofs.Common.{take}
-use Rattle.lot.specs.Meaning.{cell_rows}
 use Rattle.group.proofs.Members.{count_rows}
 use Rattle.group.proofs.as_lot.ExclusiveGroupLot.row_count.Goals as goal
 

@@ -1,4 +1,4 @@
-use Rattle.std.proofs.Common.{◌≡◌, ℕ, Bool, true, false, cond, ◌&&◌, length, Ok, Err, Result, sym, refl, ap, ◌∙◌}
+use Rattle.std.proofs.Common.{◌≡◌, ℕ, Bool, true, false, ◌&&◌, length, Err, sym, refl, ap}
 use Rattle.byte_layer.specs.declared.fault.Told.{Told}
 use Rattle.units.specs.Field.{judged}
 use Rattle.units.proofs.Judged.{judged_ok, no_err}

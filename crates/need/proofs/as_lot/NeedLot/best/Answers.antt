@@ -1,7 +1,6 @@
 use Rattle.std.proofs.Common.{pos, ◌*ℤ◌, ap, ◌∙◌, ap₂, w64, rules}
 use Rattle.std.specs.Int.{int_max}
 use Rattle.std.proofs.lemmas.Int.{to_z-of_z}
-use Rattle.lot.specs.Sum.{sum}
 use Rattle.lot.specs.Page.{table_of, at}
 use Rattle.lot.specs.Trade.{gain}
 use Rattle.lot.specs.Laws.Sums.{sum_same}

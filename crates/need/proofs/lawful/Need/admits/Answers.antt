@@ -1,4 +1,4 @@
-use Rattle.std.proofs.Common.{◌≡◌, ◌&&◌, pos, ap, ◌∙◌, w32, SFits, rules}
+use Rattle.std.proofs.Common.{◌&&◌, pos, ap, ◌∙◌, w32, SFits, rules}
 use lib.Signed.{le_z}
 use Rattle.lot.specs.Page.{at}
 use Rattle.lot.specs.Laws.Sums.{every_same}

@@ -1,12 +1,12 @@
-use Rattle.std.proofs.Common.{◌≡◌, true, false, List, [], ◌∷◌, ◌++◌, Some, Ok, sym, refl, ap, ◌∙◌, subst, ap₂, arith}
+use Rattle.std.proofs.Common.{◌≡◌, List, ◌∷◌, ◌++◌, Some, Ok, sym, ap, ◌∙◌, subst, ap₂}
 use Rattle.lot.specs.Join.{Parted}
 use Rattle.group.specs.Group.{grouping}
-use Rattle.order.specs.Order.{members_of, order_meaning}
+use Rattle.order.specs.Order.{members_of}
 use Rattle.book.specs.declared.row.Row.{Row}
 use Rattle.book.specs.declared.row.Row.TheVariants as kind
 use Rattle.book.specs.Stands.{after}
 use Rattle.sealed.specs.Ahead.{ahead}
-use Rattle.sealed.specs.Lot.{book_meaning, is_group, lawful_row, lawful_rows}
+use Rattle.sealed.specs.Lot.{book_meaning, lawful_row, lawful_rows}
 use Rattle.sealed.specs.Members.{bid_rows}
 use Rattle.sealed.proofs.Turns.{lawful_first}
 use Rattle.sealed.proofs.Splitting.{stays_whole, begins_group, first_group, not_group, fewer}

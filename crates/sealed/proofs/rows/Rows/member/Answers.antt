@@ -1,7 +1,6 @@
-use Rattle.std.proofs.Common.{◌≡◌, ◌<◌, true, false, not, ◌&&◌, ltb, ◌∷◌, Some, Ok, sym, ap, ◌∙◌, subst, arith}
+use Rattle.std.proofs.Common.{◌≡◌, true, ◌∷◌, Some, Ok, sym, ap, ◌∙◌, subst, arith}
 use Rattle.units.specs.Limit.{is_area}
 use Rattle.units.proofs.Judged.{judged_ok}
-use Rattle.bid.specs.declared.fields.BidFields.{BidFields}
 use Rattle.bid.specs.Fields.{bid_fine}
 use Rattle.book.specs.declared.row.Row.{Row}
 use Rattle.book.specs.declared.row.Row.TheVariants as kind
@@ -10,7 +9,6 @@ use Rattle.book.specs.Rows.{command_of}
 use Rattle.book.specs.Stands.{after}
 use Rattle.sealed.specs.Ahead.{ahead}
 use Rattle.sealed.specs.Lot.{lawful_row, lawful_rows}
-use Rattle.sealed.specs.Members.{MemberOn}
 use Rattle.sealed.proofs.Turns.{due_left, lawful_first, is_member, no_member, member_on_lem, refused_lawful}
 use Rattle.sealed.proofs.rows.Rows.member.Goals as goal
 

@@ -1,4 +1,4 @@
-use Rattle.std.proofs.Common.{◌≡◌, refl, arith, rules}
+use Rattle.std.proofs.Common.{refl, arith}
 use Rattle.sealed.proofs.Gathering.{gathering_first, gathering_next, gathering_due, gathering_end}
 use Rattle.sealed.proofs.rows.Rows.members.Goals as goal
 

@@ -1,4 +1,4 @@
-use Rattle.std.proofs.Common.{◌≡◌, ◌+◌, ◌^◌, ◌<◌, true, length, sym, ap, ◌∙◌, subst, arith}
+use Rattle.std.proofs.Common.{◌≡◌, true, length, sym, ap, ◌∙◌, subst, arith}
 use Rattle.book.specs.declared.stand.Stand.{Stand}
 use Rattle.book.specs.Reading.{checked}
 use Rattle.sealed.specs.Ahead.{reads_on, ahead}

@@ -1,6 +1,6 @@
 use Rattle.std.proofs.Common.{◌≡◌, Ok, sym, ap}
 use Rattle.book.specs.Reading.{checked, rows_in}
-use Rattle.sealed.specs.Book.{passes, found_in, sealed_or}
+use Rattle.sealed.specs.Book.{passes, found_in}
 use Rattle.sealed.proofs.Turns.{written_lawful}
 use Rattle.sealed.proofs.sealed_book.SealedBook.open.Goals as goal
 

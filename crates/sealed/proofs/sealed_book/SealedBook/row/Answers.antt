@@ -1,12 +1,12 @@
-use Rattle.std.proofs.Common.{◌≡◌, ℕ, ◌+◌, ◌<◌, ◌≤◌, length, drop, Some, None, Ok, Err, sym, refl, ap, ◌∙◌, arith, length-drop, rules}
+use Rattle.std.proofs.Common.{◌≡◌, ◌<◌, ◌≤◌, length, drop, Some, None, Ok, Err, sym, ◌∙◌, arith, length-drop, rules}
 use Rattle.std.proofs.lemmas.List.{take_rest}
 use Rattle.std.proofs.lemmas.Option.{slice_get_past}
 use Rattle.book.specs.Fault.{told_book}
 use Rattle.book.specs.Rows.{row_size}
 use Rattle.book.specs.Stands.{begin}
 use Rattle.book.specs.Reading.{step_of, read_rows, decoded, checked, rows_in, rows_of}
-use Rattle.book.proofs.Steps.{step_moves, row_has, reads_on_lem, reads_seal, reads_fault}
-use Rattle.sealed.proofs.Rest.{drop_rows, drop_none, push_drop, next_is, none_fault, none_past, kept_rows, passed_is}
+use Rattle.book.proofs.Steps.{step_moves, reads_on_lem, reads_seal, reads_fault}
+use Rattle.sealed.proofs.Rest.{drop_none, push_drop, next_is, none_fault, none_past, kept_rows, passed_is}
 use Rattle.sealed.proofs.sealed_book.SealedBook.row.Goals as goal
 use Rattle.sealed.proofs.sealed_book.SealedBook.row.Goals.{After-size}
 

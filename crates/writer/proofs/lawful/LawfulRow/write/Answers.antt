@@ -4,7 +4,7 @@ use Rattle.byte_layer.proofs.Placed.{placed_then}
 use Rattle.bid.specs.Format.{bid_bytes}
 use Rattle.need.specs.Format.{need_bytes}
 use Rattle.border.specs.Format.{border_bytes}
-use Rattle.book.specs.Rows.{row_bytes, row_size}
+use Rattle.book.specs.Rows.{row_bytes}
 use Rattle.writer.specs.declared.lawful.LawfulRow.{LawfulRow}
 use Rattle.writer.specs.Lawful.{row_of}
 use Rattle.writer.proofs.lawful.LawfulRow.write.Goals as goal
