@@ -15,10 +15,10 @@ impl<'a> SealedBook<'a> {
     pub fn open(text: &'a [u8]) -> SealedBook<'a>
         ensures { result.text.now ≡ book_text text.now }
     {
-        if let Ok(found) = check(text) {
-            return SealedBook { text, found };
+        match check(text) {
+            Ok(found) => SealedBook { text, found },
+            Err(_fault) => SealedBook::empty(),
         }
-        SealedBook::empty()
     }
 
     // The book of no rows.

@@ -3,9 +3,14 @@ use Rattle.book.specs.Reading.{checked, rows_in}
 use Rattle.sealed.specs.Book.{passes, found_in}
 use Rattle.sealed.proofs.Turns.{written_lawful}
 use Rattle.sealed.proofs.sealed_book.SealedBook.open.Goals as goal
+use Rattle.sealed.proofs.sealed_book.SealedBook.open.Goals.{in-Ok, in-Err}
 
-pub invariant_of-result : goal.invariant_of-result
-invariant_of-result c =
+pub invariant_of-empty : goal.invariant_of-empty
+invariant_of-empty c =
     let t = c.args.text.now in
-    let e : checked t ≡ Ok c.in-Ok.found = sym c.in-Ok.ensures.found in
-    record { passed = ap passes e; tells = ap found_in e; lawful = written_lawful t c.in-Ok.found.length (rows_in t) c.in-Ok.ensures.written }
+    elim c.match-check.branch [
+      | in-Ok w ↦
+          let e : checked t ≡ Ok w.in-Ok.found = sym w.in-Ok.ensures.found in
+          rw w.result-is (record { passed = ap passes e; tells = ap found_in e; lawful = written_lawful t w.in-Ok.found.length (rows_in t) w.in-Ok.ensures.written })
+      | in-Err w ↦ let b = w.empty.result in rw w.result-is (record { passed = b.passed; tells = b.tells; lawful = b.lawful })
+    ]
