@@ -11,8 +11,8 @@ use Rattle.book.specs.Command.{command_at, is_bid, is_seal}
 use Rattle.book.specs.Rows.{row_size, row_read}
 use Rattle.book.specs.Stands.{begin, after}
 
--- one command, tried in this order: 12, 11 (`commandAt`); 21, where a member is due and it is no bid; 22, where
--- the book has all its rows; 23, 24 (`rowRead`); 25 (`after`). It gives the row and where the reader stands then,
+-- one command, tried in this order: 12, 11 (`command_at`); 21, where a member is due and it is no bid; 22, where
+-- the book has all its rows; 23, 24 (`row_read`); 25 (`after`). It gives the row and where the reader stands then,
 -- or nothing at the seal.
 abbrev pub step_taken : Stand → Result (Option Row) Told → Result (Option (Row × Stand)) Told
 step_taken s (Err e) = Err e

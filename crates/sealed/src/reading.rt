@@ -12,6 +12,7 @@ use book::step::step;
 
 impl<'a> SealedBook<'a> {
     // The book of a text, or, where the text fails its check, the book of no rows: a seal alone.
+    #[tactic(auto, using(crate::proofs::Turns::written_lawful))]
     pub fn open(text: &'a [u8]) -> SealedBook<'a>
         ensures { result.text.now ≡ book_text text.now }
     {
