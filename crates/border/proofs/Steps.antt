@@ -1,6 +1,6 @@
 -- A border's steps at the prices of a page: areas and prices are in range, and gaps are small.
 use Rattle.std.proofs.Common.{◌≡◌, ℕ, suc, ◌+◌, ◌*◌, ◌^◌, ◌<◌, ◌≤◌, Bool, List, [], ◌∷◌, length, ℤ, pos, ◌+ℤ◌, ◌-ℤ◌, ◌*ℤ◌, neg_ℤ, nat_abs, sym, refl, ap, ◌∙◌, subst, ap₂, le_trans, mul-suc, arith, lit<, lit≤, w32, w64, SFits, to_z, of_z}
-use Rattle.std.specs.List.{AllByRecursion as All}
+use Rattle.std.specs.List.{AllByRecursion}
 use Rattle.std.specs.Int.{int_max}
 use Rattle.std.proofs.lemmas.Int.{ints, clamps, to_z-of_z}
 use Rattle.units.specs.Limit.{cap, most_quantity}
@@ -32,7 +32,7 @@ module _ (x y u v : ℤ) (h : nat_abs u ≤ cap) (k : nat_abs v ≤ cap) (e : x 
   difference_is : to_z w32 (of_z w32 (to_z w32 (of_z w32 x) -ℤ to_z w32 (of_z w32 y))) ≡ u -ℤ v
   difference_is = omega (arith, ints)
 
-total_within : (g : ℕ → ℤ) (b t : ℕ) (us : List ℕ) → All (λ u. nat_abs (g u) ≤ b) (t ∷ us) → nat_abs (total_from g t us) ≤ b * suc (length us)
+total_within : (g : ℕ → ℤ) (b t : ℕ) (us : List ℕ) → AllByRecursion (λ u. nat_abs (g u) ≤ b) (t ∷ us) → nat_abs (total_from g t us) ≤ b * suc (length us)
 total_within g b t [] h = let a : nat_abs (g t) ≤ b = h.0 in omega (arith, mul-suc b 0)
 total_within g b t (u ∷ us) h =
     let a : nat_abs (g t) ≤ b = h.0 in
@@ -40,7 +40,7 @@ total_within g b t (u ∷ us) h =
     let s : nat_abs (g t +ℤ total_from g u us) ≤ nat_abs (g t) + nat_abs (total_from g u us) = omega (arith, ints) in
     omega (arith, mul-suc b (suc (length us)))
 
-all_near : (g : ℕ → ℤ) (b : ℕ) (us : List ℕ) → ((t : ℕ) → t < 4 → nat_abs (g t) ≤ b) → All (λ t. t < 4) us → All (λ u. nat_abs (g u) ≤ b) us
+all_near : (g : ℕ → ℤ) (b : ℕ) (us : List ℕ) → ((t : ℕ) → t < 4 → nat_abs (g t) ≤ b) → AllByRecursion (λ t. t < 4) us → AllByRecursion (λ u. nat_abs (g u) ≤ b) us
 all_near g b [] h l = tt
 all_near g b (u ∷ us) h l = (h u l.0, all_near g b us h l.1)
 
@@ -54,7 +54,7 @@ module _ (x : Border) (b : List ℕ) (priced : Priced b) where
         (difference_is second first (table_of b x.fields.to t) (table_of b x.fields.from t) (priced.capped x.fields.to t (lawful_fields x).second l) (priced.capped x.fields.from t (lawful_fields x).first l) es ef)
 
   -- the gap of a step, of at most four quarters
-  pub gap_near : (k : Block) → All (λ t. t < 4) (k.0 ∷ k.1) → length k.1 ≤ 3 → (s : Stretch) → s ≡ stretch x.fields (table_of b) k → Within 1000000000 s.gap
+  pub gap_near : (k : Block) → AllByRecursion (λ t. t < 4) (k.0 ∷ k.1) → length k.1 ≤ 3 → (s : Stretch) → s ≡ stretch x.fields (table_of b) k → Within 1000000000 s.gap
   gap_near k l few s e =
       let f : BorderFields = x.fields in
       let w : nat_abs (total (gap_at f (table_of b)) k) ≤ (cap + cap) * suc (length k.1) = total_within (gap_at f (table_of b)) (cap + cap) k.0 k.1 (all_near (gap_at f (table_of b)) (cap + cap) (k.0 ∷ k.1) (small_gap f (lawful_fields x) (table_of b) priced.capped) l) in
@@ -69,7 +69,7 @@ module _ (x : Border) (b : List ℕ) (priced : Priced b) where
     pub near : Within 99999000000000 r
     pub is : r ≡ stretch_best (stretch x.fields (table_of b) k)
 
-  rented : (k : Block) → All (λ t. t < 4) (k.0 ∷ k.1) → length k.1 ≤ 3 → (s : Stretch) → s ≡ stretch x.fields (table_of b) k → (r : ℤ) → r ≡ stretch_best s → Rented k r
+  rented : (k : Block) → AllByRecursion (λ t. t < 4) (k.0 ∷ k.1) → length k.1 ≤ 3 → (s : Stretch) → s ≡ stretch x.fields (table_of b) k → (r : ℤ) → r ≡ stretch_best s → Rented k r
   rented k l few s e r h =
       let f : BorderFields = x.fields in
       let gap = gap_near k l few (stretch f (table_of b) k) refl in

@@ -1,14 +1,13 @@
 -- A lot of a single row, which holds cells: what it means over its four cells, by quarter. And lots of which at most
 -- one may be taken.
 use Rattle.std.specs.Prelude.{ℕ, Bool, true, cond, not, List, [], ◌∷◌, length, ℤ, pos, Some, None, nat_le}
-use Rattle.std.proofs.Common.{arith}
 use Rattle.std.specs.Int.{int_max}
 use Rattle.units.specs.Limit.{is_zero}
 use Rattle.lot.specs.Sum.{count, every}
 use Rattle.lot.specs.Meaning.{Meaning, Cells, Prices}
 use Rattle.lot.specs.Join.{join, blank, together}
 use Rattle.lot.specs.Parts.{group_named}
-use Rattle.lot.specs.Laws.Named.{named_zero, group_refused_row, group_named_none}
+use Rattle.lot.specs.Laws.Named.{named_zero, some_rows, group_refused_row, group_named_none}
 
 pub record Single : Type 0 where
   pub admits : (ℕ → ℤ) → Bool
@@ -60,6 +59,6 @@ exclusive ss = record {
   worth = (headed ss).worth;
   best = largest ss;
   broken = (headed ss).broken;
-  refused_row = λ c ok. group_refused_row (headed ss) (omega arith) (at_most_one (length ss) c) c ok;
+  refused_row = λ c ok. group_refused_row (headed ss) (some_rows (together single ss).rows) (at_most_one (length ss) c) c ok;
   broken_row = λ c ok adm. (headed ss).broken_row c ok (group_named_none ((headed ss).refused c) (at_most_one (length ss) c) adm);
 }

@@ -7,7 +7,7 @@ use Rattle.std.proofs.Math.Nat.{le_trans}
 use Rattle.std.proofs.Math.IntN.{*ℤ_comm, zero-*ℤ, +ℤ_idl, +ℤ_idr}
 use Rattle.std.specs.Int.Signed.{≤ℤ_refl}
 use Rattle.std.specs.Int.{int_max}
-use Rattle.std.specs.List.{AllByRecursion as All}
+use Rattle.std.specs.List.{AllByRecursion}
 use Rattle.std.proofs.lemmas.Int.{ints, clamps, by_lt_z}
 use Rattle.std.proofs.lemmas.Bool.{and_parts, and_from, or_cases, or_left, or_right, not-true, not_from_false, leb-true, eqb-true, eqb-false}
 use Rattle.units.specs.Limit.{cap, most_quantity, is_area, is_quantity}
@@ -28,40 +28,40 @@ use Rattle.border.specs.Stretch.{stretch_best, stretch_keeps}
 use Rattle.border.specs.Flow.{Block, blocks, least_from, total_from, least, total, sum_over, every_of, steady, forward_at, back_at, passes, carried, gap_at, stretch, flowing}
 
 -- ---- the members of a list
-all_map : {A : Type 0} (P R : A → Type 0) → ((x : A) → P x → R x) → (xs : List A) → All P xs → All R xs
+all_map : {A : Type 0} (P R : A → Type 0) → ((x : A) → P x → R x) → (xs : List A) → AllByRecursion P xs → AllByRecursion R xs
 all_map P R f [] p = tt
 all_map P R f (x ∷ xs) p = (f x p.0, all_map P R f xs p.1)
 
-all_map₂ : {A : Type 0} (P Q R : A → Type 0) → ((x : A) → P x → Q x → R x) → (xs : List A) → All P xs → All Q xs → All R xs
+all_map₂ : {A : Type 0} (P Q R : A → Type 0) → ((x : A) → P x → Q x → R x) → (xs : List A) → AllByRecursion P xs → AllByRecursion Q xs → AllByRecursion R xs
 all_map₂ P Q R f [] p q = tt
 all_map₂ P Q R f (x ∷ xs) p q = (f x p.0 q.0, all_map₂ P Q R f xs p.1 q.1)
 
-all_any : {A : Type 0} (P : A → Type 0) → ((x : A) → P x) → (xs : List A) → All P xs
+all_any : {A : Type 0} (P : A → Type 0) → ((x : A) → P x) → (xs : List A) → AllByRecursion P xs
 all_any P f [] = tt
 all_any P f (x ∷ xs) = (f x, all_any P f xs)
 
-every_of_lem : {A : Type 0} (xs : List A) (f : A → Bool) → every_of xs f ≡ true → All (λ x. f x ≡ true) xs
+every_of_lem : {A : Type 0} (xs : List A) (f : A → Bool) → every_of xs f ≡ true → AllByRecursion (λ x. f x ≡ true) xs
 every_of_lem [] f h = tt
 every_of_lem (x ∷ xs) f h = let both = and_parts (f x) (every_of xs f) h in (both.0, every_of_lem xs f both.1)
 
-of_every : {A : Type 0} (xs : List A) (f : A → Bool) → All (λ x. f x ≡ true) xs → every_of xs f ≡ true
+of_every : {A : Type 0} (xs : List A) (f : A → Bool) → AllByRecursion (λ x. f x ≡ true) xs → every_of xs f ≡ true
 of_every [] f h = refl
 of_every (x ∷ xs) f h = and_from (f x) (every_of xs f) h.0 (of_every xs f h.1)
 
-sum_over_le : {A : Type 0} (f g : A → ℤ) (xs : List A) → All (λ x. f x ≤ℤ g x) xs → sum_over xs f ≤ℤ sum_over xs g
+sum_over_le : {A : Type 0} (f g : A → ℤ) (xs : List A) → AllByRecursion (λ x. f x ≤ℤ g x) xs → sum_over xs f ≤ℤ sum_over xs g
 sum_over_le f g [] h = ≤ℤ_refl (pos 0)
 sum_over_le f g (x ∷ xs) h = let a : f x ≤ℤ g x = h.0 in let r = sum_over_le f g xs h.1 in omega (arith, ints)
 
-sum_over_same : {A : Type 0} (f g : A → ℤ) (xs : List A) → All (λ x. f x ≡ g x) xs → sum_over xs f ≡ sum_over xs g
+sum_over_same : {A : Type 0} (f g : A → ℤ) (xs : List A) → AllByRecursion (λ x. f x ≡ g x) xs → sum_over xs f ≡ sum_over xs g
 sum_over_same f g [] h = refl
 sum_over_same f g (x ∷ xs) h = ap₂ ◌+ℤ◌ h.0 (sum_over_same f g xs h.1)
 
 -- ---- the quarters of a step
 -- P of every quarter of a step
 abbrev On : (ℕ → Type 0) → Block → Type 0
-On P k = All P (k.0 ∷ k.1)
+On P k = AllByRecursion P (k.0 ∷ k.1)
 
-on_blocks : (P : ℕ → Type 0) → ((t : ℕ) → t < 4 → P t) → (w : Step) → All (On P) (blocks w)
+on_blocks : (P : ℕ → Type 0) → ((t : ℕ) → t < 4 → P t) → (w : Step) → AllByRecursion (On P) (blocks w)
 on_blocks P h One = ((h 0 (lit< tt), tt), ((h 1 (lit< tt), tt), ((h 2 (lit< tt), tt), ((h 3 (lit< tt), tt), tt))))
 on_blocks P h Two = ((h 0 (lit< tt), (h 1 (lit< tt), tt)), ((h 2 (lit< tt), (h 3 (lit< tt), tt)), tt))
 on_blocks P h Four = ((h 0 (lit< tt), (h 1 (lit< tt), (h 2 (lit< tt), (h 3 (lit< tt), tt)))), tt)
@@ -88,7 +88,7 @@ least_le f t [] = (omega arith, tt)
 least_le f t (u ∷ us) = (omega arith, all_map (λ v. least_from f u us ≤ f v) (λ v. min (f t) (least_from f u us) ≤ f v) (λ v h. omega arith) (u ∷ us) (least_le f u us))
 
 -- a steady flow comes out of the sum
-total_steady : (q d : ℕ → ℤ) (x : ℤ) (t : ℕ) (us : List ℕ) → q t ≡ x → All (λ u. q u ≡ x) us → total_from (λ u. q u *ℤ d u) t us ≡ x *ℤ total_from d t us
+total_steady : (q d : ℕ → ℤ) (x : ℤ) (t : ℕ) (us : List ℕ) → q t ≡ x → AllByRecursion (λ u. q u ≡ x) us → total_from (λ u. q u *ℤ d u) t us ≡ x *ℤ total_from d t us
 total_steady q d x t [] e a = ap (λ y. y *ℤ d t) e
 total_steady q d x t (u ∷ us) e a = ap₂ (λ y z. y *ℤ d t +ℤ z) e (total_steady q d x u us a.0 a.1) ∙ sym (mul_add x (d t) (total_from d u us))
 
@@ -203,19 +203,19 @@ spread_late One v t h = late _ _ _ _ t h
 spread_late Two v t h = late _ _ _ _ t h
 spread_late Four v t h = late _ _ _ _ t h
 
-spread_starts : (w : Step) (v : Block → ℤ) → All (λ k. v k ≡ spread w v k.0) (blocks w)
+spread_starts : (w : Step) (v : Block → ℤ) → AllByRecursion (λ k. v k ≡ spread w v k.0) (blocks w)
 unfolding spread
 spread_starts One v = (refl, (refl, (refl, (refl, tt))))
 spread_starts Two v = (refl, (refl, tt))
 spread_starts Four v = (refl, tt)
 
-spread_same : (w : Step) (v : Block → ℤ) → All (λ k. All (λ u. spread w v u ≡ spread w v k.0) k.1) (blocks w)
+spread_same : (w : Step) (v : Block → ℤ) → AllByRecursion (λ k. AllByRecursion (λ u. spread w v u ≡ spread w v k.0) k.1) (blocks w)
 unfolding spread
 spread_same One v = (tt, (tt, (tt, (tt, tt))))
 spread_same Two v = ((refl, tt), ((refl, tt), tt))
 spread_same Four v = ((refl, (refl, (refl, tt))), tt)
 
-spread_each : (P : ℤ → ℕ → Type 0) (w : Step) (v : Block → ℤ) → All (λ k. On (P (v k)) k) (blocks w) → (t : ℕ) → t < 4 → P (spread w v t) t
+spread_each : (P : ℤ → ℕ → Type 0) (w : Step) (v : Block → ℤ) → AllByRecursion (λ k. On (P (v k)) k) (blocks w) → (t : ℕ) → t < 4 → P (spread w v t) t
 unfolding spread
 spread_each P One v h = each_four (λ t. P (spread One v t) t) h.0.0 h.1.0.0 h.1.1.0.0 h.1.1.1.0.0
 spread_each P Two v h = each_four (λ t. P (spread Two v t) t) h.0.0 h.0.1.0 h.1.0.0 h.1.0.1.0
@@ -227,14 +227,14 @@ same_yes x y e = and_from (int_le x y) (int_le y x) (le_yes x y (omega (arith, i
 same_is : (x y : ℤ) → same_z x y ≡ true → x ≡ y
 same_is x y h = let both = and_parts (int_le x y) (int_le y x) h in omega (arith, ints)
 
-steady_from : (w : Step) (q : ℕ → ℤ) → All (λ k. All (λ u. q u ≡ q k.0) k.1) (blocks w) → steady w q ≡ true
+steady_from : (w : Step) (q : ℕ → ℤ) → AllByRecursion (λ k. AllByRecursion (λ u. q u ≡ q k.0) k.1) (blocks w) → steady w q ≡ true
 steady_from w q h = of_every (blocks w) (λ k. every_of k.1 (λ u. same_z (q u) (q k.0)))
-    (all_map (λ k. All (λ u. q u ≡ q k.0) k.1) (λ k. every_of k.1 (λ u. same_z (q u) (q k.0)) ≡ true)
+    (all_map (λ k. AllByRecursion (λ u. q u ≡ q k.0) k.1) (λ k. every_of k.1 (λ u. same_z (q u) (q k.0)) ≡ true)
     (λ k a. of_every k.1 (λ u. same_z (q u) (q k.0)) (all_map (λ u. q u ≡ q k.0) (λ u. same_z (q u) (q k.0) ≡ true) (λ u e. same_yes (q u) (q k.0) e) k.1 a))
     (blocks w) h)
 
-steady_is : (w : Step) (q : ℕ → ℤ) → steady w q ≡ true → All (λ k. All (λ u. q u ≡ q k.0) k.1) (blocks w)
-steady_is w q h = all_map (λ k. every_of k.1 (λ u. same_z (q u) (q k.0)) ≡ true) (λ k. All (λ u. q u ≡ q k.0) k.1)
+steady_is : (w : Step) (q : ℕ → ℤ) → steady w q ≡ true → AllByRecursion (λ k. AllByRecursion (λ u. q u ≡ q k.0) k.1) (blocks w)
+steady_is w q h = all_map (λ k. every_of k.1 (λ u. same_z (q u) (q k.0)) ≡ true) (λ k. AllByRecursion (λ u. q u ≡ q k.0) k.1)
     (λ k a. all_map (λ u. same_z (q u) (q k.0) ≡ true) (λ u. q u ≡ q k.0) (λ u e. same_is (q u) (q k.0) e) k.1 (every_of_lem k.1 (λ u. same_z (q u) (q k.0)) a))
     (blocks w) (every_of_lem (blocks w) (λ k. every_of k.1 (λ u. same_z (q u) (q k.0))) h)
 
@@ -350,7 +350,7 @@ module _ (f : BorderFields) where
       let both = and_parts (int_le (neg_ℤ (pos (back_at f t))) (q t)) (int_le (q t) (pos (forward_at f t))) (every_true 4 (λ t. passes (forward_at f t) (back_at f t) (q t)) (tested q h).1 t l) in
       record { lo = omega (arith, ints); hi = omega (arith, ints) }
 
-  inside_step : (q : ℕ → ℤ) (k : Block) → On (λ t. Between f t (q t)) k → All (λ u. q u ≡ q k.0) k.1 → Inside f q k
+  inside_step : (q : ℕ → ℤ) (k : Block) → On (λ t. Between f t (q t)) k → AllByRecursion (λ u. q u ≡ q k.0) k.1 → Inside f q k
   inside_step q k b s = record {
     lo = turn (least (back_at f) k) (q k.0) (le_least (back_at f) (neg_ℤ (q k.0)) k.0 k.1
         (all_map₂ (λ t. Between f t (q t)) (λ u. q u ≡ q k.0) (λ u. neg_ℤ (q k.0) ≤ℤ pos (back_at f u)) (λ u x e. let l = x.lo in omega (arith, ints)) (k.0 ∷ k.1) b (refl, s)));
@@ -362,8 +362,8 @@ module _ (f : BorderFields) where
       turn : (n : ℕ) (x : ℤ) → neg_ℤ x ≤ℤ pos n → neg_ℤ (pos n) ≤ℤ x
       turn n x h = omega (arith, ints)
 
-  inside : (q : ℕ → ℤ) → (flowing f).admits q ≡ true → All (Inside f q) (blocks f.step)
-  inside q h = all_map₂ (On (λ t. Between f t (q t))) (λ k. All (λ u. q u ≡ q k.0) k.1) (Inside f q) (inside_step q)
+  inside : (q : ℕ → ℤ) → (flowing f).admits q ≡ true → AllByRecursion (Inside f q) (blocks f.step)
+  inside q h = all_map₂ (On (λ t. Between f t (q t))) (λ k. AllByRecursion (λ u. q u ≡ q k.0) k.1) (Inside f q) (inside_step q)
       (blocks f.step) (on_blocks (λ t. Between f t (q t)) (between q h) f.step) (steady_is f.step q (tested q h).0)
 
   rent_steps : (q : ℕ → ℤ) (p : Prices) → rent f q p ≡ sum_over (blocks f.step) (total (λ u. q u *ℤ gap_at f p u))
@@ -421,7 +421,7 @@ module _ (f : BorderFields) where
 
   idle_admitted_lem : (flowing f).admits no_power ≡ true
   idle_admitted_lem = and_from (steady f.step no_power) (every 4 (λ t. passes (forward_at f t) (back_at f t) (pos 0)))
-      (steady_from f.step no_power (all_any (λ k. All (λ u. no_power u ≡ no_power k.0) k.1) (λ k. all_any (λ u. no_power u ≡ no_power k.0) (λ u. refl) k.1) (blocks f.step)))
+      (steady_from f.step no_power (all_any (λ k. AllByRecursion (λ u. no_power u ≡ no_power k.0) k.1) (λ k. all_any (λ u. no_power u ≡ no_power k.0) (λ u. refl) k.1) (blocks f.step)))
       (every_from 4 (λ t. passes (forward_at f t) (back_at f t) (pos 0)) (λ t _. passes_from (forward_at f t) (back_at f t) (pos 0) (omega (arith, ints)) (omega (arith, ints))))
 
   idle_net_lem : (a : ℕ) → carried f a (pos 0) ≡ pos 0

@@ -1,7 +1,7 @@
 -- A group of lawful bids keeps the duties of a lot.
 use Rattle.std.specs.Prelude.{◌≡◌, List, [], ◌∷◌, map, refl}
 use Rattle.std.proofs.Common.{ap}
-use Rattle.std.specs.List.{AllByRecursion as All}
+use Rattle.std.specs.List.{AllByRecursion}
 use Rattle.lot.specs.Duties.{Duties}
 use Rattle.lot.specs.Join.{join, blank, together}
 use Rattle.lot.specs.Single.{single, headed}
@@ -11,7 +11,7 @@ use Rattle.bid.specs.declared.lawful.Bid.{Bid}
 use Rattle.bid.specs.Laws.Bids.{bid_duties}
 use Rattle.group.specs.Group.{member_of, bid_meaning, grouping}
 
-pub members_owe : (bs : List Bid) → All SingleDuties (map member_of bs)
+pub members_owe : (bs : List Bid) → AllByRecursion SingleDuties (map member_of bs)
 members_owe [] = tt
 members_owe (b ∷ bs) = (bid_duties b.fields b.placed b.fine, members_owe bs)
 

@@ -6,7 +6,7 @@ use native.Mathlib.Omega.{arith}
 use Rattle.std.proofs.Math.Nat.{zero-add}
 use Rattle.std.proofs.Math.IntN.{+ℤ_idl}
 use Rattle.std.specs.Int.{int_max}
-use Rattle.std.specs.List.{AllByRecursion as All}
+use Rattle.std.specs.List.{AllByRecursion}
 use Rattle.std.proofs.lemmas.Int.{ints, clamps, by_lt_z}
 use Rattle.std.proofs.lemmas.Bool.{cases_lt, cases_Bool, leb-true, le-leb}
 use Rattle.lot.specs.Sum.{count, beside}
@@ -51,7 +51,7 @@ all_idle k c ok none = fun_ext (λ i. ⊎_elim
 members : List Single → Meaning
 members ss = together single ss
 
-members_duties : (ss : List Single) → All SingleDuties ss → Duties (members ss)
+members_duties : (ss : List Single) → AllByRecursion SingleDuties ss → Duties (members ss)
 unfolding members together
 members_duties [] d = blank_duties 0
 members_duties (s ∷ ss) d = join_duties (single s) (together single ss) (single_duties s d.0) (members_duties ss d.1)
@@ -66,7 +66,7 @@ unfolding members together
 members_cells [] = blank_cells 0
 members_cells (s ∷ ss) = let e = members_cells ss in let f = single_cells s in let g = cell_rows_join (single s) (together single ss) in omega arith
 
-members_idle : (ss : List Single) → All SingleDuties ss → (p : Prices) → surplus (members ss) no_cells p ≡ pos 0
+members_idle : (ss : List Single) → AllByRecursion SingleDuties ss → (p : Prices) → surplus (members ss) no_cells p ≡ pos 0
 unfolding members together
 members_idle [] d p = idle_surplus nothing ((blank_duties 0).idle (omega arith)) p
 members_idle (s ∷ ss) d p =
@@ -116,7 +116,7 @@ idle_member s d p q e =
     ∙ ap₂ ◌+ℤ◌ d.idle_worth (money_zero (s.net no_power) p (λ a t _ _. d.idle_net a t))
 
 -- ---- no admitted cells of which at most one row is taken have more than the largest
-at_most : (ss : List Single) → All SingleDuties ss → (p : Prices) (c : Cells) → Table (length ss) c → Admitted (members ss) c → count (length ss) (λ i. taken (c i)) ≤ 1 → surplus (members ss) c p ≤ℤ largest ss p
+at_most : (ss : List Single) → AllByRecursion SingleDuties ss → (p : Prices) (c : Cells) → Table (length ss) c → Admitted (members ss) c → count (length ss) (λ i. taken (c i)) ≤ 1 → surplus (members ss) c p ≤ℤ largest ss p
 unfolding members together
 at_most [] d p c ok adm few = let e : surplus (members []) c p ≡ pos 0 = ap (λ x. surplus (members []) x p) (fun_ext (λ i. fun_ext (λ t. ok.past i t (omega arith)))) ∙ members_idle [] d p in none (surplus (members []) c p) e
   where
@@ -172,12 +172,12 @@ module _ (q : ℕ → ℤ) (c : Cells) where
 idle_count : (n : ℕ) → count n (λ i. taken (no_cells i)) ≡ 0
 idle_count n = count_none n (λ i. taken (no_cells i)) (λ i l. none_taken)
 
-members_admit_none : (ss : List Single) → All SingleDuties ss → Admitted (members ss) no_cells
+members_admit_none : (ss : List Single) → AllByRecursion SingleDuties ss → Admitted (members ss) no_cells
 unfolding members together
 members_admit_none [] d = refl
 members_admit_none (s ∷ ss) d = both_admit s ss no_cells d.0.idle_admitted (ap (members ss).refused (shift_none 1) ∙ members_admit_none ss d.1)
 
-reach : (ss : List Single) → All SingleDuties ss → (p : Prices) → Pick ss p
+reach : (ss : List Single) → AllByRecursion SingleDuties ss → (p : Prices) → Pick ss p
 unfolding members together
 reach [] d p = record { at = no_cells; fitting = table_none 0; admitted = refl; one = let e = idle_count 0 in omega arith; gives = members_idle [] d p }
 reach (s ∷ ss) d p =
@@ -222,7 +222,7 @@ shift_zero : (c : Cells) → shift 0 c ≡ c
 unfolding shift
 shift_zero c = fun_ext (λ k. ap c (zero-add k))
 
-module _ (ss : List Single) (d : All SingleDuties ss) where
+module _ (ss : List Single) (d : AllByRecursion SingleDuties ss) where
   headed_duties : Duties (headed ss)
   unfolding members
   headed_duties = join_duties (blank 1) (members ss) (blank_duties 1) (members_duties ss d)
@@ -286,7 +286,7 @@ module _ (ss : List Single) (d : All SingleDuties ss) where
       best = λ p quoted cap. let h = most ss d p cap in more (largest ss p) (together single ss).rows h;
     }
       where
-        most : (ss : List Single) → All SingleDuties ss → (p : Prices) → Capped p → largest ss p ≤ℤ pos most_money
+        most : (ss : List Single) → AllByRecursion SingleDuties ss → (p : Prices) → Capped p → largest ss p ≤ℤ pos most_money
         most [] d p cap = omega (arith, ints)
         most (s ∷ ss) d p cap = let a : s.best p ≤ℤ pos most_money = d.0.best p cap in let b = most ss d.1 p cap in omega (arith, ints, clamps)
 

@@ -64,5 +64,9 @@ group_named_own None true e = refl
 group_named_own None false e = let z : ◌≡◌ {A = ℕ} 0 1 = cc in absurd (omega arith)
 group_named_own (Some r) b e = let z : ◌≡◌ {A = ℕ} 0 1 = cc in absurd (omega arith)
 
+-- a lot that begins with a row has rows
+pub some_rows : (n : ℕ) → 0 < 1 + n
+some_rows n = omega arith
+
 pub group_refused_row : (m : Meaning) → 0 < m.rows → (b : Bool) (c : Cells) → Table (cell_rows m) c → (r : ℕ) → group_named (m.refused c) b ≡ Some r → r < m.rows
 group_refused_row m some b c ok = group_named_below m.rows (m.refused c) b some (m.refused_row c ok)

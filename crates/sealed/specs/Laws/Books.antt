@@ -1,7 +1,7 @@
 -- A book of lawful rows keeps the duties of a lot.
 use Rattle.std.specs.Prelude.{◌≡◌, ℕ, zero, suc, true, List, [], ◌∷◌, map, length, take, drop, refl}
 use Rattle.std.proofs.Common.{◌∙◌, arith}
-use Rattle.std.specs.List.{AllByRecursion as All}
+use Rattle.std.specs.List.{AllByRecursion}
 use Rattle.std.proofs.lemmas.Bool.{and_parts}
 use Rattle.units.specs.Limit.{is_area}
 use Rattle.lot.specs.Duties.{Duties}
@@ -25,28 +25,28 @@ use Rattle.sealed.specs.Lot.{Filed, bid, group, need, border, bids_among, filed,
 -- what each row, or group, shows
 abbrev Owes : Filed → Type 0
 Owes (bid f) = SingleDuties (bidding f)
-Owes (group fs) = All SingleDuties (map bidding fs)
+Owes (group fs) = AllByRecursion SingleDuties (map bidding fs)
 Owes (need f) = SingleDuties (needing f)
 Owes (border f) = SingleDuties (flowing f)
 
-all_take : {A : Type 0} (P : A → Type 0) (n : ℕ) (xs : List A) → All P xs → All P (take n xs)
+all_take : {A : Type 0} (P : A → Type 0) (n : ℕ) (xs : List A) → AllByRecursion P xs → AllByRecursion P (take n xs)
 all_take P zero xs h = tt
 all_take P (suc n) [] h = tt
 all_take P (suc n) (x ∷ xs) h = (h.0, all_take P n xs h.1)
 
-all_drop : {A : Type 0} (P : A → Type 0) (n : ℕ) (xs : List A) → All P xs → All P (drop n xs)
+all_drop : {A : Type 0} (P : A → Type 0) (n : ℕ) (xs : List A) → AllByRecursion P xs → AllByRecursion P (drop n xs)
 all_drop P zero xs h = h
 all_drop P (suc n) [] h = tt
 all_drop P (suc n) (x ∷ xs) h = all_drop P n xs h.1
 
-bids_owe : (os : List Filed) → All Owes os → All SingleDuties (map bidding (bids_among os))
+bids_owe : (os : List Filed) → AllByRecursion Owes os → AllByRecursion SingleDuties (map bidding (bids_among os))
 bids_owe [] h = tt
 bids_owe (bid f ∷ os) h = (h.0, bids_owe os h.1)
 bids_owe (group fs ∷ os) h = bids_owe os h.1
 bids_owe (need f ∷ os) h = bids_owe os h.1
 bids_owe (border f ∷ os) h = bids_owe os h.1
 
-filed_owe : (rs : List Row) → lawful_rows rs ≡ true → All Owes (filed rs)
+filed_owe : (rs : List Row) → lawful_rows rs ≡ true → AllByRecursion Owes (filed rs)
 unfolding filed lawful_rows
 filed_owe [] h = tt
 filed_owe (kind.Bid f ∷ rs) h =
@@ -72,7 +72,7 @@ one_duties (group fs) h = group_duties (map bidding fs) h
 one_duties (need f) h = single_duties (needing f) h
 one_duties (border f) h = single_duties (flowing f) h
 
-all_duties : (os : List Filed) → All Owes os → Duties (together filed_meaning os)
+all_duties : (os : List Filed) → AllByRecursion Owes os → Duties (together filed_meaning os)
 unfolding together
 all_duties [] h = blank_duties 0
 all_duties (o ∷ os) h = join_duties (filed_meaning o) (together filed_meaning os) (one_duties o h.0) (all_duties os h.1)
