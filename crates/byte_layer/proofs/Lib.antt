@@ -2,3 +2,4 @@ pub mod Numbers
 pub mod Placed
 pub mod Parts
 pub mod Fours
+pub mod Words

@@ -1,5 +1,5 @@
 -- Reading and writing numbers undo each other, at every width.
-use Rattle.std.proofs.Common.{◌≡◌, ℕ, zero, suc, ◌+◌, ◌-◌, ◌*◌, ◌/◌, ◌%◌, ◌^◌, ◌<◌, ◌≤◌, Bool, true, false, cond, ltb, List, [], ◌∷◌, ◌++◌, length, get_or, take, drop, ℤ, pos, negsuc, sym, refl, ap, ◌∙◌, subst, ⊎_elim, append_assoc, le-add_right, mul-le-mul_right, mod-eq_of_lt, mul_assoc, pow-suc, arith, lit<, length-append, take-append-drop, drop-cons, SFits, to_z, of_z, le-ltb, lt-ltb}
+use Rattle.std.proofs.Common.{◌≡◌, ℕ, zero, suc, ◌+◌, ◌-◌, ◌*◌, ◌/◌, ◌%◌, ◌^◌, ◌<◌, ◌≤◌, Bool, true, false, cond, ltb, List, [], ◌∷◌, ◌++◌, length, get_or, take, drop, ℤ, pos, negsuc, sym, refl, ap, ◌∙◌, subst, ⊎_elim, append_assoc, append-nil, le-add_right, mul-le-mul_right, mod-eq_of_lt, mul_assoc, pow-suc, arith, lit<, length-append, take-append-drop, drop-cons, SFits, to_z, of_z, le-ltb, lt-ltb}
 use native.Mathlib.Nat.{pow-succ', mod-one, mul-add-div_right, div-eq_of_lt}
 use lib.Arith.{mod-mul}
 use mir.Val.{sel, bits, hbits}
@@ -86,6 +86,13 @@ stood k t at n o h e =
     ∙ ap (λ (xs : List ℕ). take at t ++ (take k (drop at t) ++ xs)) (sym (drop-drop k at t))
     ∙ ap (λ (xs : List ℕ). take at t ++ xs) (take-append-drop k (drop at t))
     ∙ take-append-drop at t
+
+-- the octets that stand at a place, taken out, are the same number
+pub read_there : (k : ℕ) (t bs : List ℕ) (at : ℕ) → Octets t → at + k ≤ length t → bs ≡ take k (drop at t) → number k bs 0 ≡ number k t at
+read_there k t bs at o h e =
+    let n = number k t at in
+    let same : bs ≡ [] ++ (octets k n ++ []) = e ∙ sym (octets_read k t at o h) ∙ sym (append-nil (octets k n)) in
+    ap (λ x. number k x 0) same ∙ number_written k n [] [] 0 refl ∙ mod-eq_of_lt (number_below k t at o)
 
 -- a number that was written is read again
 pub reads : (k : ℕ) (t u : List ℕ) (at n : ℕ) → at + k ≤ length t → n < 256 ^ k → u ≡ placed t at (octets k n) → number k u at ≡ n

@@ -8,7 +8,7 @@ use Rattle.byte_layer.proofs.Numbers.{number_written, number_below, octets_read,
 pub field_back : (k n : ℕ) (xs ys : List ℕ) (at : ℕ) → length xs ≡ at → n < 256 ^ k → number k (xs ++ (octets k n ++ ys)) at ≡ n
 field_back k n xs ys at e l = number_written k n xs ys at e ∙ mod-eq_of_lt l
 
-twos_below : (k : ℕ) (z : ℤ) → Holds k z → twos k z < 256 ^ k
+pub twos_below : (k : ℕ) (z : ℤ) → Holds k z → twos k z < 256 ^ k
 unfolding twos
 twos_below k (pos n) h = omega (arith, pow_256_pos k)
 twos_below k (negsuc n) h = omega (arith, pow_256_pos k)

@@ -25,12 +25,7 @@ placed_three t t1 t2 t3 a b1 b2 x y z h e1 l1 e2 l2 e3 =
     placed_then t t2 t3 a b2 (x ++ y) z h (placed_then t t1 t2 a b1 x y h e1 l1 e2) (omega (arith, length-append x y)) e3
     ∙ ap (placed t a) (append_assoc x y z)
 
-pub placed_five : (t t1 t2 t3 t4 t5 : List ℕ) (a b1 b2 b3 b4 : ℕ) (h q0 q1 q2 q3 : List ℕ) → a ≤ length t → t1 ≡ placed t a h → b1 ≡ a + length h → t2 ≡ placed t1 b1 q0 → b2 ≡ b1 + length q0 → t3 ≡ placed t2 b2 q1 → b3 ≡ b2 + length q1 → t4 ≡ placed t3 b3 q2 → b4 ≡ b3 + length q2 → t5 ≡ placed t4 b4 q3 → t5 ≡ placed t a (h ++ (q0 ++ (q1 ++ (q2 ++ q3))))
-placed_five t t1 t2 t3 t4 t5 a b1 b2 b3 b4 h q0 q1 q2 q3 k e1 l1 e2 l2 e3 l3 e4 l4 e5 =
-    let f3 = placed_three t t1 t2 t3 a b1 b2 h q0 q1 k e1 l1 e2 l2 e3 in
-    let head = h ++ (q0 ++ q1) in
-    let far : b3 ≡ a + length head = omega (arith, length-append h (q0 ++ q1), length-append q0 q1) in
-    placed_three t t3 t4 t5 a b3 b4 head q2 q3 k f3 far e4 l4 e5 ∙ ap (placed t a) (regroup h q0 q1 q2 q3)
-  where
-    regroup : (a b c d e : List ℕ) → (a ++ (b ++ c)) ++ (d ++ e) ≡ a ++ (b ++ (c ++ (d ++ e)))
-    regroup a b c d e = simp append_assoc
+pub placed_four : (t t1 t2 t3 t4 : List ℕ) (a b1 b2 b3 : ℕ) (w x y z : List ℕ) → a ≤ length t → t1 ≡ placed t a w → b1 ≡ a + length w → t2 ≡ placed t1 b1 x → b2 ≡ b1 + length x → t3 ≡ placed t2 b2 y → b3 ≡ b2 + length y → t4 ≡ placed t3 b3 z → t4 ≡ placed t a (w ++ (x ++ (y ++ z)))
+placed_four t t1 t2 t3 t4 a b1 b2 b3 w x y z h e1 l1 e2 l2 e3 l3 e4 =
+    let f2 = placed_then t t1 t2 a b1 w x h e1 l1 e2 in
+    placed_three t t2 t3 t4 a b2 b3 (w ++ x) y z h f2 (omega (arith, length-append w x)) e3 l3 e4 ∙ ap (placed t a) (append_assoc w x (y ++ z))

@@ -1,5 +1,6 @@
 -- What a fault tells: a number, a layer and a place.
-use Rattle.std.specs.Prelude.{ℕ, ◌/◌, cond, Ok, Err, Result, ◌==◌}
+use Rattle.std.specs.Prelude.{ℕ, ◌/◌, cond, List, ◌++◌, Ok, Err, Result, ◌==◌, codes}
+use Rattle.std.specs.Fmt.{decimal}
 use Rattle.byte_layer.specs.declared.fault.Layer.{Layer}
 use Rattle.byte_layer.specs.declared.fault.Layer.TheVariants as layer
 use Rattle.byte_layer.specs.declared.fault.Told.{Told}
@@ -22,3 +23,15 @@ told_byte (Unknown offset) = fault 12 offset
 abbrev pub heard : {X E : Type 0} → (E → Told) → Result X E → Result X Told
 heard tell (Ok x) = Ok x
 heard tell (Err e) = Err (tell e)
+
+-- how a layer and what a fault tells are printed
+abbrev pub layer_text : Layer → List ℕ
+layer_text layer.Bytes = codes "bytes"
+layer_text layer.Book = codes "book"
+layer_text layer.Page = codes "page"
+layer_text layer.Market = codes "market"
+layer_text layer.Gate = codes "gate"
+layer_text layer.Annex = codes "annex"
+
+abbrev pub told_text : Told → List ℕ
+told_text t = decimal t.number ++ (codes ", layer " ++ (layer_text t.layer ++ (codes ", place " ++ decimal t.place)))

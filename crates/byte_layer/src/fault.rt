@@ -1,5 +1,7 @@
-ghost use Rattle.std.specs.Prelude.{◌≡◌};
-ghost use Rattle.byte_layer.specs.Fault.{told_byte};
+ghost use Rattle.std.specs.Prelude.{◌≡◌, Some};
+ghost use Rattle.byte_layer.specs.Fault.{told_byte, layer_text, told_text};
+
+use std::fmt;
 
 // The layer that a fault comes from, the lowest first.
 #[derive(Clone, Copy, PartialEq, Eq, Debug)]
@@ -12,6 +14,21 @@ pub enum Layer {
     Annex,
 }
 
+impl fmt::Display for Layer {
+    ghost output = { λ x. Some (layer_text x) };
+
+    fn fmt<W: fmt::Write>(&self, f: &mut fmt::Formatter<W>) -> fmt::Result {
+        f.write_str(match self {
+            Layer::Bytes => "bytes",
+            Layer::Book => "book",
+            Layer::Page => "page",
+            Layer::Market => "market",
+            Layer::Gate => "gate",
+            Layer::Annex => "annex",
+        })
+    }
+}
+
 // What a fault tells: its number, its layer, and where it was found.
 #[derive(Clone, Copy, PartialEq, Eq, Debug)]
 pub struct Told {
@@ -20,8 +37,21 @@ pub struct Told {
     pub place: usize,
 }
 
+impl fmt::Display for Told {
+    ghost output = { λ x. Some (told_text x) };
+
+    fn fmt<W: fmt::Write>(&self, f: &mut fmt::Formatter<W>) -> fmt::Result {
+        let Told {
+            number,
+            layer,
+            place,
+        } = *self;
+        write!(f, "{number}, layer {layer}, place {place}")
+    }
+}
+
 // What the bytes of a text alone can have wrong.
-#[derive(Clone, Copy)]
+#[derive(Clone, Copy, PartialEq, Eq, Debug)]
 pub enum ByteFault {
     // The text ends inside the command at this offset, or, with no command begun, at this length.
     Cut(usize),

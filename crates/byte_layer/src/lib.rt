@@ -2,3 +2,4 @@
 
 pub mod fault;
 pub mod number;
+pub mod part;

@@ -1,8 +1,7 @@
-ghost use Rattle.std.specs.Prelude.{◌≡◌, ℕ, ◌+◌, ◌≤◌, length};
-ghost use Rattle.byte_layer.specs.Number.{number, octets, signed_number, signed_octets, placed, Octets};
+ghost use Rattle.std.specs.Prelude.{◌≡◌, ℕ, ◌+◌, ◌^◌, ◌<◌, ◌≤◌, length};
+ghost use Rattle.byte_layer.specs.Number.{number, octets, placed, Octets};
 
-// A number read at a place is the one whose octets stand there, and a number written is read again:
-// `stood` and `reads` say so of each width. The places of a field lie within the text.
+// Numbers in a text, the highest octet first.
 
 // Every element of a text is an octet: what the type says, as a fact that a proof can cite.
 pub fn are_octets(text: &[u8])
@@ -13,141 +12,160 @@ pub fn are_octets(text: &[u8])
     }
 }
 
-pub fn read_u8(text: &[u8], at: usize) -> u8
-    requires { at + 1 ≤ length text.now }
-    ensures value { result ≡ number 1 text.now at }
-    ensures stood { placed text.now at (octets 1 result) ≡ text.now }
-{
-    u8::from_be_bytes([text[at]])
+// A number that `N` octets hold. `code` is the unsigned number that stands for it in them, and `of_code` goes back.
+pub trait Number<const N: usize>: Copy {
+    ghost code: { Self → ℕ };
+
+    ghost of_code: { ℕ → Self };
+
+    fn from_octets(bytes: &[u8; N]) -> Self
+        ensures value { result ≡ of_code (number N bytes.now 0) }
+        ensures code { code result ≡ number N bytes.now 0 };
+
+    fn to_octets(self) -> [u8; N]
+        ensures octets { result ≡ octets N (code self) }
+        ensures small { code self < 256 ^ N }
+        ensures back { of_code (code self) ≡ self };
 }
 
-pub fn read_u16(text: &[u8], at: usize) -> u16
-    requires { at + 2 ≤ length text.now }
-    ensures value { result ≡ number 2 text.now at }
-    ensures stood { placed text.now at (octets 2 result) ≡ text.now }
-{
-    u16::from_be_bytes([text[at], text[at + 1]])
+impl Number<1> for u8 {
+    ghost code = { λ n. n };
+
+    ghost of_code = { λ n. n };
+
+    fn from_octets(bytes: &[u8; 1]) -> u8 {
+        u8::from_be_bytes(*bytes)
+    }
+
+    fn to_octets(self) -> [u8; 1] {
+        u8::to_be_bytes(self)
+    }
 }
 
-pub fn read_u32(text: &[u8], at: usize) -> u32
-    requires { at + 4 ≤ length text.now }
-    ensures value { result ≡ number 4 text.now at }
-    ensures stood { placed text.now at (octets 4 result) ≡ text.now }
-{
-    u32::from_be_bytes([text[at], text[at + 1], text[at + 2], text[at + 3]])
+impl Number<2> for u16 {
+    ghost code = { λ n. n };
+
+    ghost of_code = { λ n. n };
+
+    fn from_octets(bytes: &[u8; 2]) -> u16 {
+        u16::from_be_bytes(*bytes)
+    }
+
+    fn to_octets(self) -> [u8; 2] {
+        u16::to_be_bytes(self)
+    }
 }
 
-pub fn read_u64(text: &[u8], at: usize) -> u64
-    requires { at + 8 ≤ length text.now }
-    ensures value { result ≡ number 8 text.now at }
-    ensures stood { placed text.now at (octets 8 result) ≡ text.now }
-{
-    u64::from_be_bytes([
-        text[at],
-        text[at + 1],
-        text[at + 2],
-        text[at + 3],
-        text[at + 4],
-        text[at + 5],
-        text[at + 6],
-        text[at + 7],
-    ])
+impl Number<4> for u32 {
+    ghost code = { λ n. n };
+
+    ghost of_code = { λ n. n };
+
+    fn from_octets(bytes: &[u8; 4]) -> u32 {
+        u32::from_be_bytes(*bytes)
+    }
+
+    fn to_octets(self) -> [u8; 4] {
+        u32::to_be_bytes(self)
+    }
 }
 
-pub fn read_i8(text: &[u8], at: usize) -> i8
-    requires { at + 1 ≤ length text.now }
-    ensures value { result ≡ signed_number 1 text.now at }
-    ensures stood { placed text.now at (signed_octets 1 result) ≡ text.now }
-{
-    read_u8(text, at).cast_signed()
+impl Number<8> for u64 {
+    ghost code = { λ n. n };
+
+    ghost of_code = { λ n. n };
+
+    fn from_octets(bytes: &[u8; 8]) -> u64 {
+        u64::from_be_bytes(*bytes)
+    }
+
+    fn to_octets(self) -> [u8; 8] {
+        u64::to_be_bytes(self)
+    }
 }
 
-pub fn read_i16(text: &[u8], at: usize) -> i16
-    requires { at + 2 ≤ length text.now }
-    ensures value { result ≡ signed_number 2 text.now at }
-    ensures stood { placed text.now at (signed_octets 2 result) ≡ text.now }
-{
-    read_u16(text, at).cast_signed()
+impl Number<1> for i8 {
+    ghost use Rattle.byte_layer.specs.Number.{signed, twos};
+
+    ghost code = { twos 1 };
+
+    ghost of_code = { signed 1 };
+
+    fn from_octets(bytes: &[u8; 1]) -> i8 {
+        i8::from_be_bytes(*bytes)
+    }
+
+    fn to_octets(self) -> [u8; 1] {
+        i8::to_be_bytes(self)
+    }
 }
 
-pub fn read_i32(text: &[u8], at: usize) -> i32
-    requires { at + 4 ≤ length text.now }
-    ensures value { result ≡ signed_number 4 text.now at }
-    ensures stood { placed text.now at (signed_octets 4 result) ≡ text.now }
-{
-    read_u32(text, at).cast_signed()
+impl Number<2> for i16 {
+    ghost use Rattle.byte_layer.specs.Number.{signed, twos};
+
+    ghost code = { twos 2 };
+
+    ghost of_code = { signed 2 };
+
+    fn from_octets(bytes: &[u8; 2]) -> i16 {
+        i16::from_be_bytes(*bytes)
+    }
+
+    fn to_octets(self) -> [u8; 2] {
+        i16::to_be_bytes(self)
+    }
 }
 
-pub fn read_i64(text: &[u8], at: usize) -> i64
-    requires { at + 8 ≤ length text.now }
-    ensures value { result ≡ signed_number 8 text.now at }
-    ensures stood { placed text.now at (signed_octets 8 result) ≡ text.now }
-{
-    read_u64(text, at).cast_signed()
+impl Number<4> for i32 {
+    ghost use Rattle.byte_layer.specs.Number.{signed, twos};
+
+    ghost code = { twos 4 };
+
+    ghost of_code = { signed 4 };
+
+    fn from_octets(bytes: &[u8; 4]) -> i32 {
+        i32::from_be_bytes(*bytes)
+    }
+
+    fn to_octets(self) -> [u8; 4] {
+        i32::to_be_bytes(self)
+    }
 }
 
-pub fn write_u8(text: &mut [u8], at: usize, value: u8)
-    requires { at + 1 ≤ length text.old }
-    ensures bytes { text.new ≡ placed text.old at (octets 1 value) }
-    ensures reads { number 1 text.new at ≡ value }
-{
-    text[at..at + 1].copy_from_slice(&value.to_be_bytes());
+impl Number<8> for i64 {
+    ghost use Rattle.byte_layer.specs.Number.{signed, twos};
+
+    ghost code = { twos 8 };
+
+    ghost of_code = { signed 8 };
+
+    fn from_octets(bytes: &[u8; 8]) -> i64 {
+        i64::from_be_bytes(*bytes)
+    }
+
+    fn to_octets(self) -> [u8; 8] {
+        i64::to_be_bytes(self)
+    }
 }
 
-pub fn write_u16(text: &mut [u8], at: usize, value: u16)
-    requires { at + 2 ≤ length text.old }
-    ensures bytes { text.new ≡ placed text.old at (octets 2 value) }
-    ensures reads { number 2 text.new at ≡ value }
+// The number at a place of a text. A number that was read, written again where it stood, changes nothing.
+pub fn read<T: Number<N>, const N: usize>(text: &[u8], at: usize) -> T
+    requires { at + N ≤ length text.now }
+    ensures value { result ≡ T.of_code (number N text.now at) }
+    ensures stood { placed text.now at (octets N (T.code result)) ≡ text.now }
 {
-    text[at..at + 2].copy_from_slice(&value.to_be_bytes());
+    let mut bytes = [0u8; N];
+    bytes.copy_from_slice(&text[at..at + N]);
+    T::from_octets(&bytes)
 }
 
-pub fn write_u32(text: &mut [u8], at: usize, value: u32)
-    requires { at + 4 ≤ length text.old }
-    ensures bytes { text.new ≡ placed text.old at (octets 4 value) }
-    ensures reads { number 4 text.new at ≡ value }
+// Writes a number at a place of a text, where it is read again.
+pub fn write<T: Number<N>, const N: usize>(text: &mut [u8], at: usize, value: T)
+    requires { at + N ≤ length text.old }
+    ensures bytes { text.new ≡ placed text.old at (octets N (T.code value)) }
+    ensures reads { T.of_code (number N text.new at) ≡ value }
 {
-    text[at..at + 4].copy_from_slice(&value.to_be_bytes());
-}
-
-pub fn write_u64(text: &mut [u8], at: usize, value: u64)
-    requires { at + 8 ≤ length text.old }
-    ensures bytes { text.new ≡ placed text.old at (octets 8 value) }
-    ensures reads { number 8 text.new at ≡ value }
-{
-    text[at..at + 8].copy_from_slice(&value.to_be_bytes());
-}
-
-pub fn write_i8(text: &mut [u8], at: usize, value: i8)
-    requires { at + 1 ≤ length text.old }
-    ensures bytes { text.new ≡ placed text.old at (signed_octets 1 value) }
-    ensures reads { signed_number 1 text.new at ≡ value }
-{
-    write_u8(text, at, value.cast_unsigned());
-}
-
-pub fn write_i16(text: &mut [u8], at: usize, value: i16)
-    requires { at + 2 ≤ length text.old }
-    ensures bytes { text.new ≡ placed text.old at (signed_octets 2 value) }
-    ensures reads { signed_number 2 text.new at ≡ value }
-{
-    write_u16(text, at, value.cast_unsigned());
-}
-
-pub fn write_i32(text: &mut [u8], at: usize, value: i32)
-    requires { at + 4 ≤ length text.old }
-    ensures bytes { text.new ≡ placed text.old at (signed_octets 4 value) }
-    ensures reads { signed_number 4 text.new at ≡ value }
-{
-    write_u32(text, at, value.cast_unsigned());
-}
-
-pub fn write_i64(text: &mut [u8], at: usize, value: i64)
-    requires { at + 8 ≤ length text.old }
-    ensures bytes { text.new ≡ placed text.old at (signed_octets 8 value) }
-    ensures reads { signed_number 8 text.new at ≡ value }
-{
-    write_u64(text, at, value.cast_unsigned());
+    write_bytes(text, at, &value.to_octets());
 }
 
 pub fn write_bytes(text: &mut [u8], at: usize, bytes: &[u8])

@@ -1,3 +1,4 @@
 pub mod Limit
 pub mod Side
 pub mod Field
+pub mod Named

@@ -1,5 +1,5 @@
 -- The side of a bid or a need, and its byte in a text.
-use Rattle.std.specs.Prelude.{ℕ, zero, suc, Bool, true, false, Some, None, Option}
+use Rattle.std.specs.Prelude.{ℕ, zero, suc, Bool, true, false, List, Some, None, Option, codes}
 use Rattle.units.specs.declared.side.Side.{Side}
 use Rattle.units.specs.declared.side.Side.TheVariants.{Upward, Downward}
 
@@ -15,3 +15,8 @@ side_of (suc (suc n)) = None
 abbrev pub is_upward : Side → Bool
 is_upward Upward = true
 is_upward Downward = false
+
+-- how a side is printed
+abbrev pub side_text : Side → List ℕ
+side_text Upward = codes "upward"
+side_text Downward = codes "downward"

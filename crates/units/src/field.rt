@@ -4,7 +4,7 @@ ghost use Rattle.units.specs.Field.{told_field, unreadable};
 use byte_layer::fault::{Layer, Told};
 
 // Which rule the fields of a row break: the one on areas, which is tried first, or another.
-#[derive(Clone, Copy)]
+#[derive(Clone, Copy, PartialEq, Eq, Debug)]
 pub enum FieldFault {
     Area,
     Rule,

@@ -2,4 +2,5 @@
 
 pub mod field;
 pub mod limit;
+pub mod named;
 pub mod side;

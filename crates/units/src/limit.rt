@@ -10,22 +10,25 @@ pub const MOST_QUANTITY: u32 = 99_999;
 // The cap: the highest price in cents per MWh, and, below zero, the lowest.
 pub const CAP: i32 = 9_999_999;
 
+#[tactic(auto, unfolding(crate::specs::Limit::is_area))]
 pub fn is_area(area: u8) -> bool
     ensures { result ≡ is_area area }
 {
     area <= LAST_AREA
 }
 
+#[tactic(auto, unfolding(crate::specs::Limit::is_quantity))]
 pub fn is_quantity(quantity: u32) -> bool
     ensures { result ≡ is_quantity quantity }
 {
     quantity <= MOST_QUANTITY
 }
 
+#[tactic(auto, unfolding(crate::specs::Limit::is_price))]
 pub fn is_price(price: i32) -> bool
     ensures { result ≡ is_price price }
 {
-    -CAP <= price && price <= CAP
+    (-CAP..=CAP).contains(&price)
 }
 
 // Four quarters are four: what the type says, as a fact that a proof can cite.

@@ -1,0 +1,9 @@
+use Rattle.std.proofs.Common.{refl, w32, SFits, rules}
+use Rattle.byte_layer.proofs.Words.{from_be, signed_from}
+use Rattle.byte_layer.proofs.number.I32Number4.from_octets.Goals as goal
+
+pub returns : goal.returns
+returns c =
+    let f : SFits w32 c.from_be_bytes.result = search rules in
+    let r = signed_from w32 4 c.args.bytes.now _ c.from_be_bytes.result (record { half = refl; whole = refl }) f c.fits-bytes (from_be 3 c.args.bytes.now) c.from_be_bytes.ensures in
+    record { value = r.0; code = r.1 }
