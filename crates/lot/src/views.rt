@@ -1,7 +1,7 @@
 ghost use Rattle.std.specs.Prelude.{◌≡◌, ℕ, ◌+◌, ◌*◌, ◌<◌, ◌≤◌, length, take, drop};
 ghost use Rattle.lot.specs.Page.{table_of, four};
 
-use byte_layer::number::read_i32;
+use byte_layer::number::read;
 
 // The bytes of one row of a page: a command byte, and four numbers of 4 bytes.
 pub const ROW_BYTES: usize = 17;
@@ -11,7 +11,7 @@ fn number_in(bytes: &[u8], row: usize, quarter: usize) -> i32
     requires { (quarter < 4) × (17 * row + 17 ≤ length bytes.now) }
     ensures { result ≡ table_of bytes.now row quarter }
 {
-    read_i32(bytes, ROW_BYTES * row + 1 + 4 * quarter)
+    read(bytes, ROW_BYTES * row + 1 + 4 * quarter)
 }
 
 // The four numbers of a row of 17 bytes.

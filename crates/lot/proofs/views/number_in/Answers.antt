@@ -6,4 +6,4 @@ use Rattle.lot.proofs.views.number_in.Goals as goal
 
 pub returns : goal.returns
 unfolding table_of
-returns c = to_z-of_z w32 c.read_i32.result (search rules) ∙ c.read_i32.ensures.value ∙ cond_below c.args.quarter 4 _ _ c.requires.0
+returns c = to_z-of_z w32 c.read.result (search rules) ∙ c.read.ensures.value ∙ cond_below c.args.quarter 4 _ _ c.requires.0
