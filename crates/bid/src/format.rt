@@ -3,55 +3,46 @@ ghost use Rattle.byte_layer.specs.Fault.{heard};
 ghost use Rattle.byte_layer.specs.Number.{placed};
 ghost use Rattle.units.specs.Field.{told_field};
 ghost use Rattle.bid.specs.Fields.{bid_judged};
-ghost use Rattle.bid.specs.Format.{quarter_at, quarters_at, quarter_bytes, bid_bytes, bid_read};
+ghost use Rattle.bid.specs.Format.{quarter_at, quarter_bytes, bid_bytes, bid_read};
 ghost use Rattle.bid.specs.Lawful.{fields_in};
 
 use crate::fields::{BidFields, BidQuarter, bid_fine};
 use crate::lawful::Bid;
-use byte_layer::number::{read_i32, read_u32, write_bytes, write_i32, write_u32};
+use byte_layer::number::{self, write_bytes};
+use byte_layer::part::{Part, read_four, write_four};
 use units::field::FieldFault;
 use units::limit::{are_four, is_area};
 use units::side::Side;
 
 // The operands of a bid's command: area, side, then minimum, maximum and price of each quarter.
 
-fn quarter(text: &[u8], at: usize) -> BidQuarter
-    requires { at + 12 ≤ length text.now }
-    ensures { result ≡ quarter_at text.now at }
-{
-    BidQuarter {
-        minimum: read_u32(text, at),
-        maximum: read_u32(text, at + 4),
-        price: read_i32(text, at + 8),
+impl Part<12> for BidQuarter {
+    ghost stands = { quarter_at };
+
+    ghost bytes = { quarter_bytes };
+
+    fn read(text: &[u8], at: usize) -> BidQuarter {
+        BidQuarter {
+            minimum: number::read(text, at),
+            maximum: number::read(text, at + 4),
+            price: number::read(text, at + 8),
+        }
+    }
+
+    fn write(&self, text: &mut [u8], at: usize) {
+        number::write(text, at, self.minimum);
+        number::write(text, at + 4, self.maximum);
+        number::write(text, at + 8, self.price);
     }
 }
 
-fn quarters(text: &[u8]) -> [BidQuarter; 4]
-    requires { 50 ≤ length text.now }
-    ensures { result ≡ quarters_at text.now }
-{
-    [
-        quarter(text, 2),
-        quarter(text, 14),
-        quarter(text, 26),
-        quarter(text, 38),
-    ]
-}
+// The lawful bid of these fields, or the first rule that they break.
+impl TryFrom<BidFields> for Bid {
+    type Error = FieldFault;
 
-fn write_quarter(text: &mut [u8], at: usize, q: &BidQuarter)
-    requires { at + 12 ≤ length text.old }
-    ensures { text.new ≡ placed text.old at (quarter_bytes q.now) }
-{
-    write_u32(text, at, q.minimum);
-    write_u32(text, at + 4, q.maximum);
-    write_i32(text, at + 8, q.price);
-}
+    ghost try_from_gives = { λ fields r. (row : ℕ) → heard (told_field row) (fields_in r) ≡ bid_judged row fields };
 
-impl Bid {
-    // The lawful bid of these fields, or the first rule that they break.
-    pub fn of(fields: BidFields) -> Result<Bid, FieldFault>
-        ensures { (row : ℕ) → heard (told_field row) (fields_in result) ≡ bid_judged row fields }
-    {
+    fn try_from(fields: BidFields) -> Result<Bid, FieldFault> {
         are_four(&fields.quarters);
         if !is_area(fields.area) {
             return Err(FieldFault::Area);
@@ -61,7 +52,9 @@ impl Bid {
         }
         Ok(Bid { fields })
     }
+}
 
+impl Bid {
     pub fn fields(&self) -> BidFields
         ensures { result ≡ self.now.fields }
     {
@@ -73,17 +66,17 @@ impl Bid {
         requires { 50 ≤ length text.now }
         ensures { (row : ℕ) → heard (told_field row) (fields_in result) ≡ bid_read row text.now }
     {
-        match text {
-            [area, side, ..] => match Side::of(*side) {
-                Some(side) => Bid::of(BidFields {
-                    area: *area,
-                    side,
-                    quarters: quarters(text),
-                }),
-                None => Err(FieldFault::unreadable(is_area(*area))),
-            },
-            _ => unreachable(),
-        }
+        let [area, side, ..] = text else {
+            return unreachable();
+        };
+        let Ok(side) = Side::try_from(*side) else {
+            return Err(FieldFault::unreadable(is_area(*area)));
+        };
+        Bid::try_from(BidFields {
+            area: *area,
+            side,
+            quarters: read_four(text, 2),
+        })
     }
 
     // Writes the operands into a text from a place on.
@@ -91,11 +84,8 @@ impl Bid {
         requires { at + 50 ≤ length text.old }
         ensures { text.new ≡ placed text.old at (bid_bytes self.now.fields) }
     {
-        let [a, b, c, d] = &self.fields.quarters;
-        write_bytes(text, at, &[self.fields.area, self.fields.side.byte()]);
-        write_quarter(text, at + 2, a);
-        write_quarter(text, at + 14, b);
-        write_quarter(text, at + 26, c);
-        write_quarter(text, at + 38, d);
+        let fields = &self.fields;
+        write_bytes(text, at, &[fields.area, u8::from(fields.side)]);
+        write_four(text, at + 2, &fields.quarters);
     }
 }

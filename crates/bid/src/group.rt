@@ -16,21 +16,25 @@ pub const MOST_MEMBERS: u8 = 8;
 fn group_fine(members: u8) -> bool
     ensures { result ≡ group_fine members }
 {
-    FEWEST_MEMBERS <= members && members <= MOST_MEMBERS
+    (FEWEST_MEMBERS..=MOST_MEMBERS).contains(&members)
 }
 
-impl GroupSize {
-    // The size of a group of so many members, if it may have them.
-    pub fn of(members: u8) -> Result<GroupSize, FieldFault>
-        ensures { (row : ℕ) → heard (told_field row) (members_in result) ≡ group_judged row members }
-    {
+// The size of a group of so many members, if it may have them.
+impl TryFrom<u8> for GroupSize {
+    type Error = FieldFault;
+
+    ghost try_from_gives = { λ members r. (row : ℕ) → heard (told_field row) (members_in r) ≡ group_judged row members };
+
+    fn try_from(members: u8) -> Result<GroupSize, FieldFault> {
         if group_fine(members) {
             Ok(GroupSize { members })
         } else {
             Err(FieldFault::Rule)
         }
     }
+}
 
+impl GroupSize {
     pub fn members(&self) -> u8
         ensures { result ≡ self.now.members }
     {
