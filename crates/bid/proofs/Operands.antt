@@ -1,5 +1,5 @@
 -- A bid's operands: their lengths, and that reading and writing undo each other.
-use Rattle.std.proofs.Common.{◌≡◌, ℕ, ◌+◌, ◌≤◌, true, leb, List, [], ◌∷◌, ◌++◌, length, get_or, take, drop, ℤ, pos, Some, None, Ok, Err, Option, sym, refl, ap, ◌∙◌, subst, append_assoc, arith, length-append, leb-true}
+use Rattle.std.proofs.Common.{◌≡◌, ℕ, ◌+◌, ◌≤◌, true, leb, List, [], ◌∷◌, ◌++◌, length, get_or, take, drop, ℤ, pos, Some, None, Ok, Option, sym, refl, ap, ◌∙◌, subst, append_assoc, arith, length-append, leb-true}
 use Rattle.std.proofs.lemmas.Bool.{and_parts}
 use Rattle.byte_layer.specs.Number.{number, octets, signed_number, signed_octets, twos, Octets}
 use Rattle.byte_layer.proofs.Numbers.{length_octets, octets_read}
@@ -114,12 +114,3 @@ sided_stood row t f (Some s) d o h e =
 pub bid_forth : (row : ℕ) (t : List ℕ) (f : BidFields) → Octets t → 50 ≤ length t → bid_read row t ≡ Ok f → BidStood row t f
 unfolding bid_read
 bid_forth row t f o h e = sided_stood row t f (side_of (get_or t 1 0)) refl o h e
-
--- what is read by the side's byte
-pub unsided : (row : ℕ) (t : List ℕ) → side_of (get_or t 1 0) ≡ None → Err (unreadable row (is_area (get_or t 0 0))) ≡ bid_read row t
-unfolding bid_read
-unsided row t e = sym (ap (bid_sided row t) e)
-
-pub sided : (row : ℕ) (t : List ℕ) (s : Side) (qs : List BidQuarter) → side_of (get_or t 1 0) ≡ Some s → qs ≡ quarters_at t → bid_judged row (record { area = get_or t 0 0; side = s; quarters = qs }) ≡ bid_read row t
-unfolding bid_read
-sided row t s qs e f = ap (λ (xs : List BidQuarter). bid_judged row (record { area = get_or t 0 0; side = s; quarters = xs })) f ∙ sym (ap (bid_sided row t) e)

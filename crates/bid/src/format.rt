@@ -21,6 +21,7 @@ impl Part<12> for BidQuarter {
 
     ghost bytes = { quarter_bytes };
 
+    #[tactic(auto, unfolding(crate::specs::Format::quarter_at))]
     fn read(text: &[u8], at: usize) -> BidQuarter {
         BidQuarter {
             minimum: number::read(text, at),
@@ -62,6 +63,7 @@ impl Bid {
     }
 
     // The bid whose operands stand at the front of a text.
+    #[tactic(auto, unfolding(crate::specs::Format::bid_read))]
     pub fn read(text: &[u8]) -> Result<Bid, FieldFault>
         requires { 50 ≤ length text.now }
         ensures { (row : ℕ) → heard (told_field row) (fields_in result) ≡ bid_read row text.now }

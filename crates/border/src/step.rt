@@ -1,34 +1,51 @@
-ghost use Rattle.std.specs.Prelude.{◌≡◌};
-ghost use Rattle.border.specs.Step.{step_for, step_byte};
+ghost use Rattle.std.specs.Prelude.{◌≡◌, Some};
+ghost use Rattle.units.specs.Named.{Names};
+ghost use Rattle.border.specs.Step.{step_for, step_byte, step_text};
+
+use std::fmt;
+use units::named::Unnamed;
 
 // The step of a border, in quarters: within a step its flow is constant.
-#[derive(Clone, Copy)]
+#[derive(Clone, Copy, PartialEq, Eq, Debug)]
 pub enum Step {
     One,
     Two,
     Four,
 }
 
-impl Step {
-    // The step that a byte of a text names, if it names one.
-    pub fn of(byte: u8) -> Option<Step>
-        ensures { result ≡ step_for byte }
-    {
+// The step that a byte of a text names, if it names one.
+impl TryFrom<u8> for Step {
+    type Error = Unnamed;
+
+    ghost try_from_gives = { Names step_for };
+
+    fn try_from(byte: u8) -> Result<Step, Unnamed> {
         match byte {
-            1 => Some(Step::One),
-            2 => Some(Step::Two),
-            4 => Some(Step::Four),
-            _ => None,
+            1 => Ok(Step::One),
+            2 => Ok(Step::Two),
+            4 => Ok(Step::Four),
+            _ => Err(Unnamed(byte)),
         }
     }
+}
 
-    pub fn byte(self) -> u8
-        ensures { result ≡ step_byte self }
-    {
-        match self {
+impl From<Step> for u8 {
+    ghost from_gives = { λ step byte. byte ≡ step_byte step };
+
+    fn from(step: Step) -> u8 {
+        match step {
             Step::One => 1,
             Step::Two => 2,
             Step::Four => 4,
         }
+    }
+}
+
+// A step is printed as its number of quarters.
+impl fmt::Display for Step {
+    ghost output = { λ x. Some (step_text x) };
+
+    fn fmt<W: fmt::Write>(&self, f: &mut fmt::Formatter<W>) -> fmt::Result {
+        write!(f, "{}", u8::from(*self))
     }
 }

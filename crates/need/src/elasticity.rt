@@ -1,31 +1,50 @@
-ghost use Rattle.std.specs.Prelude.{◌≡◌};
-ghost use Rattle.need.specs.Elasticity.{elasticity_of, elasticity_byte};
+ghost use Rattle.std.specs.Prelude.{◌≡◌, Some};
+ghost use Rattle.units.specs.Named.{Names};
+ghost use Rattle.need.specs.Elasticity.{elasticity_of, elasticity_byte, elasticity_text};
+
+use std::fmt;
+use units::named::Unnamed;
 
 // Whether a need has prices of its own: an elastic one has a price in each quarter, an inelastic one has none.
-#[derive(Clone, Copy)]
+#[derive(Clone, Copy, PartialEq, Eq, Debug)]
 pub enum Elasticity {
     Elastic,
     Inelastic,
 }
 
-impl Elasticity {
-    // What a byte of a text names, if it names anything.
-    pub fn of(byte: u8) -> Option<Elasticity>
-        ensures { result ≡ elasticity_of byte }
-    {
+// What a byte of a text names, if it names anything.
+impl TryFrom<u8> for Elasticity {
+    type Error = Unnamed;
+
+    ghost try_from_gives = { Names elasticity_of };
+
+    fn try_from(byte: u8) -> Result<Elasticity, Unnamed> {
         match byte {
-            0 => Some(Elasticity::Inelastic),
-            1 => Some(Elasticity::Elastic),
-            _ => None,
+            0 => Ok(Elasticity::Inelastic),
+            1 => Ok(Elasticity::Elastic),
+            _ => Err(Unnamed(byte)),
         }
     }
+}
 
-    pub fn byte(self) -> u8
-        ensures { result ≡ elasticity_byte self }
-    {
-        match self {
+impl From<Elasticity> for u8 {
+    ghost from_gives = { λ elasticity byte. byte ≡ elasticity_byte elasticity };
+
+    fn from(elasticity: Elasticity) -> u8 {
+        match elasticity {
             Elasticity::Inelastic => 0,
             Elasticity::Elastic => 1,
         }
+    }
+}
+
+impl fmt::Display for Elasticity {
+    ghost output = { λ x. Some (elasticity_text x) };
+
+    fn fmt<W: fmt::Write>(&self, f: &mut fmt::Formatter<W>) -> fmt::Result {
+        f.write_str(match self {
+            Elasticity::Elastic => "elastic",
+            Elasticity::Inelastic => "inelastic",
+        })
     }
 }

@@ -3,54 +3,46 @@ ghost use Rattle.byte_layer.specs.Fault.{heard};
 ghost use Rattle.byte_layer.specs.Number.{placed};
 ghost use Rattle.units.specs.Field.{told_field};
 ghost use Rattle.need.specs.Fields.{need_judged};
-ghost use Rattle.need.specs.Format.{need_quarter_at, need_quarters_at, need_quarter_bytes, need_bytes, need_read};
+ghost use Rattle.need.specs.Format.{need_quarter_at, need_quarter_bytes, need_bytes, need_read};
 ghost use Rattle.need.specs.Lawful.{fields_in};
 
 use crate::elasticity::Elasticity;
 use crate::fields::{NeedFields, NeedQuarter, need_fine};
 use crate::lawful::Need;
-use byte_layer::number::{read_i32, read_u32, write_bytes, write_i32, write_u32};
+use byte_layer::number::{self, write_bytes};
+use byte_layer::part::{Part, read_four, write_four};
 use units::field::FieldFault;
 use units::limit::{are_four, is_area};
 use units::side::Side;
 
 // The operands of a need's command: area, side, elasticity, then maximum and price of each quarter.
 
-fn quarter(text: &[u8], at: usize) -> NeedQuarter
-    requires { at + 8 ≤ length text.now }
-    ensures { result ≡ need_quarter_at text.now at }
-{
-    NeedQuarter {
-        maximum: read_u32(text, at),
-        price: read_i32(text, at + 4),
+impl Part<8> for NeedQuarter {
+    ghost stands = { need_quarter_at };
+
+    ghost bytes = { need_quarter_bytes };
+
+    #[tactic(auto, unfolding(crate::specs::Format::need_quarter_at))]
+    fn read(text: &[u8], at: usize) -> NeedQuarter {
+        NeedQuarter {
+            maximum: number::read(text, at),
+            price: number::read(text, at + 4),
+        }
+    }
+
+    fn write(&self, text: &mut [u8], at: usize) {
+        number::write(text, at, self.maximum);
+        number::write(text, at + 4, self.price);
     }
 }
 
-fn quarters(text: &[u8]) -> [NeedQuarter; 4]
-    requires { 35 ≤ length text.now }
-    ensures { result ≡ need_quarters_at text.now }
-{
-    [
-        quarter(text, 3),
-        quarter(text, 11),
-        quarter(text, 19),
-        quarter(text, 27),
-    ]
-}
+// The lawful need of these fields, or the first rule that they break.
+impl TryFrom<NeedFields> for Need {
+    type Error = FieldFault;
 
-fn write_quarter(text: &mut [u8], at: usize, q: &NeedQuarter)
-    requires { at + 8 ≤ length text.old }
-    ensures { text.new ≡ placed text.old at (need_quarter_bytes q.now) }
-{
-    write_u32(text, at, q.maximum);
-    write_i32(text, at + 4, q.price);
-}
+    ghost try_from_gives = { λ fields r. (row : ℕ) → heard (told_field row) (fields_in r) ≡ need_judged row fields };
 
-impl Need {
-    // The lawful need of these fields, or the first rule that they break.
-    pub fn of(fields: NeedFields) -> Result<Need, FieldFault>
-        ensures { (row : ℕ) → heard (told_field row) (fields_in result) ≡ need_judged row fields }
-    {
+    fn try_from(fields: NeedFields) -> Result<Need, FieldFault> {
         are_four(&fields.quarters);
         if !is_area(fields.area) {
             return Err(FieldFault::Area);
@@ -60,7 +52,9 @@ impl Need {
         }
         Ok(Need { fields })
     }
+}
 
+impl Need {
     pub fn fields(&self) -> NeedFields
         ensures { result ≡ self.now.fields }
     {
@@ -68,24 +62,24 @@ impl Need {
     }
 
     // The need whose operands stand at the front of a text.
+    #[tactic(auto, unfolding(crate::specs::Format::need_read))]
     pub fn read(text: &[u8]) -> Result<Need, FieldFault>
         requires { 35 ≤ length text.now }
         ensures { (row : ℕ) → heard (told_field row) (fields_in result) ≡ need_read row text.now }
     {
-        match text {
-            [area, side, elastic, ..] => match (Side::of(*side), Elasticity::of(*elastic)) {
-                (Some(side), Some(elasticity)) => {
-                    Need::of(NeedFields {
-                        area: *area,
-                        side,
-                        elasticity,
-                        quarters: quarters(text),
-                    })
-                }
-                _ => Err(FieldFault::unreadable(is_area(*area))),
-            },
-            _ => unreachable(),
-        }
+        let [area, side, elastic, ..] = text else {
+            return unreachable();
+        };
+        let (Ok(side), Ok(elasticity)) = (Side::try_from(*side), Elasticity::try_from(*elastic))
+        else {
+            return Err(FieldFault::unreadable(is_area(*area)));
+        };
+        Need::try_from(NeedFields {
+            area: *area,
+            side,
+            elasticity,
+            quarters: read_four(text, 3),
+        })
     }
 
     // Writes the operands into a text from a place on.
@@ -94,15 +88,12 @@ impl Need {
         ensures { text.new ≡ placed text.old at (need_bytes self.now.fields) }
     {
         let fields = &self.fields;
-        let [a, b, c, d] = &fields.quarters;
-        write_bytes(
-            text,
-            at,
-            &[fields.area, fields.side.byte(), fields.elasticity.byte()],
-        );
-        write_quarter(text, at + 3, a);
-        write_quarter(text, at + 11, b);
-        write_quarter(text, at + 19, c);
-        write_quarter(text, at + 27, d);
+        let head = [
+            fields.area,
+            u8::from(fields.side),
+            u8::from(fields.elasticity),
+        ];
+        write_bytes(text, at, &head);
+        write_four(text, at + 3, &fields.quarters);
     }
 }

@@ -1,11 +1,11 @@
-use Rattle.std.proofs.Common.{ℕ, ◌+◌, [], ◌∷◌, refl, ap, ◌∙◌, arith}
+use Rattle.std.proofs.Common.{ℕ, ◌+◌, [], ◌∷◌, refl, ap, ◌∙◌, pos, arith}
 use Rattle.byte_layer.specs.Number.{placed}
-use Rattle.byte_layer.proofs.Placed.{placed_five}
+use Rattle.byte_layer.proofs.Fours.{fours_bytes}
+use Rattle.byte_layer.proofs.Placed.{placed_then}
 use Rattle.units.specs.Side.{side_byte}
 use Rattle.need.specs.Elasticity.{elasticity_byte}
-use Rattle.need.specs.Fields.{need_quarter}
+use Rattle.need.specs.declared.fields.NeedQuarter.{NeedQuarter}
 use Rattle.need.specs.Format.{need_bytes, need_quarter_bytes}
-use Rattle.need.proofs.Operands.{length_quarter}
 use Rattle.need.proofs.lawful.Need.write.Goals as goal
 
 pub returns : goal.returns
@@ -14,14 +14,11 @@ returns c =
     let t = c.args.text.now in
     let a = c.args.at in
     let f = c.args.self.now.fields in
-    let q = λ (k : ℕ). need_quarter_bytes (need_quarter f.quarters k) in
-    let l = λ (k : ℕ). length_quarter (need_quarter f.quarters k) in
-    placed_five t c.write_bytes.new.text c.write_quarter.new.text c.write_quarter-2.new.text c.write_quarter-3.new.text c.write_quarter-4.new.text
-    a (a + 3) (a + 11) (a + 19) (a + 27) (f.area ∷ side_byte f.side ∷ elasticity_byte f.elasticity ∷ []) (q 0) (q 1) (q 2) (q 3)
+    let none : NeedQuarter = record { maximum = 0; price = pos 0 } in
+    placed_then t c.write_bytes.new.text c.write_four.new.text a (a + 3) (f.area ∷ side_byte f.side ∷ elasticity_byte f.elasticity ∷ []) _
     (omega arith)
     (c.write_bytes.ensures
-    ∙ ap (λ (x : ℕ). placed t a (f.area ∷ x ∷ c.byte-2.result ∷ [])) c.byte.ensures
-    ∙ ap (λ (x : ℕ). placed t a (f.area ∷ side_byte f.side ∷ x ∷ [])) c.byte-2.ensures)
+    ∙ ap (λ (x : ℕ). placed t a (f.area ∷ x ∷ c.from-2.result ∷ [])) c.from.ensures
+    ∙ ap (λ (x : ℕ). placed t a (f.area ∷ side_byte f.side ∷ x ∷ [])) c.from-2.ensures)
     refl
-    c.write_quarter.ensures (omega (arith, l 0)) c.write_quarter-2.ensures (omega (arith, l 1))
-    c.write_quarter-3.ensures (omega (arith, l 2)) c.write_quarter-4.ensures
+    (c.write_four.ensures ∙ ap (placed c.write_bytes.new.text (a + 3)) (fours_bytes need_quarter_bytes none none none none f.quarters c.args.self.now.four))
