@@ -1,16 +1,19 @@
-ghost use Rattle.std.specs.Prelude.{◌≡◌};
+ghost use Rattle.std.specs.Prelude.{◌≡◌, Some};
+ghost use Rattle.byte_layer.specs.Fault.{told_text};
 ghost use Rattle.book.specs.Fault.{told_book};
 ghost use Rattle.book.specs.declared.fault.BookFault.TheVariants.{Bytes};
 ghost use Rattle.units.specs.Field.{told_field};
 
 use byte_layer::fault::{ByteFault, Layer, Told};
+use std::error::Error;
+use std::fmt;
 use units::field::FieldFault;
 
 // The most rows of a book.
 pub const MOST_ROWS: usize = 1_024;
 
 // What a book is refused for, by a reader or a writer.
-#[derive(Clone, Copy)]
+#[derive(Clone, Copy, PartialEq, Eq, Debug)]
 pub enum BookFault {
     // What the bytes alone have wrong.
     Bytes(ByteFault),
@@ -42,42 +45,34 @@ impl BookFault {
     pub fn tell(&self) -> Told
         ensures { result ≡ told_book self.now }
     {
-        let layer = Layer::Book;
-        match self {
-            BookFault::Bytes(fault) => fault.tell(),
-            BookFault::Member(row) => Told {
-                number: 21,
-                layer,
-                place: *row,
-            },
-            BookFault::Full => Told {
-                number: 22,
-                layer,
-                place: MOST_ROWS,
-            },
-            BookFault::Area(row) => Told {
-                number: 23,
-                layer,
-                place: *row,
-            },
-            BookFault::Field(row) => Told {
-                number: 24,
-                layer,
-                place: *row,
-            },
-            BookFault::Mixed(row) => Told {
-                number: 25,
-                layer,
-                place: *row,
-            },
-            BookFault::Short(rows) => Told {
-                number: 26,
-                layer,
-                place: *rows,
-            },
+        let (number, place) = match self {
+            BookFault::Bytes(fault) => return fault.tell(),
+            BookFault::Member(row) => (21, *row),
+            BookFault::Full => (22, MOST_ROWS),
+            BookFault::Area(row) => (23, *row),
+            BookFault::Field(row) => (24, *row),
+            BookFault::Mixed(row) => (25, *row),
+            BookFault::Short(rows) => (26, *rows),
+        };
+        Told {
+            number,
+            layer: Layer::Book,
+            place,
         }
     }
 }
+
+// A fault is printed as what it tells.
+impl fmt::Display for BookFault {
+    ghost output = { λ x. Some (told_text (told_book x)) };
+
+    fn fmt<W: fmt::Write>(&self, f: &mut fmt::Formatter<W>) -> fmt::Result {
+        let told = self.tell();
+        write!(f, "{told}")
+    }
+}
+
+impl Error for BookFault {}
 
 impl From<ByteFault> for BookFault {
     ghost from_gives = { λ e r. r ≡ Bytes e };

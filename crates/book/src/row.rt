@@ -1,6 +1,7 @@
 ghost use Rattle.std.specs.Prelude.{◌≡◌};
-ghost use Rattle.book.specs.Rows.{row_size};
+ghost use Rattle.book.specs.Rows.{command_of, row_size};
 
+use crate::command::Command;
 use bid::fields::BidFields;
 use border::fields::BorderFields;
 use need::fields::NeedFields;
@@ -15,16 +16,25 @@ pub enum Row {
     Border(BorderFields),
 }
 
+// The command that a row is.
+impl From<Row> for Command {
+    ghost from_gives = { λ row command. command ≡ command_of row };
+
+    fn from(row: Row) -> Command {
+        match row {
+            Row::Bid(_) => Command::Bid,
+            Row::Group(_) => Command::Group,
+            Row::Need(_) => Command::Need,
+            Row::Border(_) => Command::Border,
+        }
+    }
+}
+
 impl Row {
     // How many bytes the row's command has.
     pub fn size(&self) -> usize
         ensures { result ≡ row_size self.now }
     {
-        match self {
-            Row::Bid(_) => 51,
-            Row::Group(_) => 2,
-            Row::Need(_) => 36,
-            Row::Border(_) => 36,
-        }
+        Command::from(*self).size()
     }
 }

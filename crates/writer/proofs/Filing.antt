@@ -17,25 +17,17 @@ use Rattle.book.proofs.Trip.{begins_more, begins_stays}
 use Rattle.writer.specs.declared.state.OpenBook.{OpenBook}
 use Rattle.writer.specs.declared.state.GroupUnderway.{GroupUnderway}
 use Rattle.writer.specs.declared.state.Filed.{Filed}
-use Rattle.writer.specs.declared.state.Begun.{Begun}
-use Rattle.writer.specs.declared.state.Joined.{Joined}
 use Rattle.writer.specs.declared.state.Membership.{Membership}
 use Rattle.writer.specs.declared.state.Membership.TheVariants.{More, Last}
 use Rattle.writer.specs.Admit.{admitted}
 use Rattle.writer.specs.Calls.{RowFiled, GroupBegun, member_next, MemberFiled}
+use Rattle.writer.specs.Single.{Single}
 use Rattle.writer.specs.Holding.{opened, underway, Holds, Owes, HoldsNext}
 use Rattle.writer.proofs.Admits.{passes, joins}
 
 pub cases_made : {X Y : Type 0} (r : Result X Y) (P R : X → Type 0) (Q : Y → Type 0) → MatchResult r P Q → ((x : X) → P x → R x) → IfOk r R
 cases_made (Ok x) P R Q p f = f x p
 cases_made (Err y) P R Q p f = tt
-
--- a row that is no group
-abbrev pub Single : Row → Type 0
-Single (kind.Bid b) = Unit {0}
-Single (kind.Group n) = ⊥
-Single (kind.Need n) = Unit {0}
-Single (kind.Border b) = Unit {0}
 
 after_open : (a n : ℕ) (r : Row) → Single r → after (fresh a n) r ≡ Ok (Some (r, onward (fresh a n) r))
 unfolding after
@@ -44,11 +36,11 @@ after_open a n (kind.Group k) h = absurd h
 after_open a n (kind.Need k) h = refl
 after_open a n (kind.Border b) h = refl
 
-pub filed_holds : (b : OpenBook) (t u : List ℕ) (r : Row) (p : Filed) → Single r → Four r → RowFiled b t r p u → (rs : List Row) → Holds t b rs → Holds u p.book (rs ++ r ∷ [])
+pub filed_holds : (b : OpenBook) (t u : List ℕ) (r : Row) (p : Filed OpenBook) → Single r → Four r → RowFiled b t r p u → (rs : List Row) → Holds t b rs → Holds u p.next (rs ++ r ∷ [])
 filed_holds b t u r p h l f rs w =
     let k = passes (length t) b.length b.rows r (Some r) f.passed in
     let x = begins_more t u (opened b) (onward (opened b) r) rs r w (record { few = k.few; due = refl; fine = k.fine; four = l; next = after_open b.length b.rows r h }) k.room f.text in
-    subst (λ (m : OpenBook). Holds u m (rs ++ r ∷ [])) (sym f.book) x
+    subst (λ (m : OpenBook). Holds u m (rs ++ r ∷ [])) (sym f.next) x
 
 rowed_fine : (row n : ℕ) (b : Bool) (o : Option Row) → rowed kind.Group (judged row true b n) ≡ Ok o → b ≡ true
 rowed_fine row n true o e = refl
@@ -58,7 +50,7 @@ rowed_fine row n false o e = no_err (fault 24 row) o e
 group_due : (row n : ℕ) → row_judged row (kind.Group n) ≡ Ok (Some (kind.Group n)) → 0 < n
 group_due row n e = let h = leb-true 2 n (and_parts (leb 2 n) (leb n 8) (rowed_fine row n (group_fine n) (Some (kind.Group n)) e)).0 in omega arith
 
-pub begun_owes : (b : OpenBook) (t u : List ℕ) (n : ℕ) (p : Begun) → GroupBegun b t n p u → (rs : List Row) → Holds t b rs → Owes u p.group rs (kind.Group n ∷ [])
+pub begun_owes : (b : OpenBook) (t u : List ℕ) (n : ℕ) (p : Filed GroupUnderway) → GroupBegun b t n p u → (rs : List Row) → Holds t b rs → Owes u p.next rs (kind.Group n ∷ [])
 unfolding after
 begun_owes b t u n p f rs w =
     let k = passes (length t) b.length b.rows (kind.Group n) (Some (kind.Group n)) f.passed in
@@ -66,7 +58,7 @@ begun_owes b t u n p f rs w =
     let s = begins_stays t u (opened b) rs b.length (row_bytes (kind.Group n)) w (omega arith) w.within f.text in
     let g : GroupUnderway = record { length = b.length + 2; rows = b.rows + 1; due = n; group = b.rows; before = b.length; first = None } in
     let o : Owes u g rs (kind.Group n ∷ []) = record { before = s; since = omega arith; begins = x; due = group_due b.rows n k.fine } in
-    subst (λ (m : GroupUnderway). Owes u m rs (kind.Group n ∷ [])) (sym f.group) o
+    subst (λ (m : GroupUnderway). Owes u m rs (kind.Group n ∷ [])) (sym f.next) o
 
 abbrev joined_to : Membership → Stand
 joined_to (More g) = underway g
@@ -92,7 +84,7 @@ next_holds u g area rs ms b h x = by (leb g.due 1) refl x
     by true e w = w
     by false e w = let l = leb-false g.due 1 e in record { before = b; since = omega arith; begins = w; due = omega arith }
 
-pub member_holds : (g : GroupUnderway) (t u : List ℕ) (f : BidFields) (p : Joined) → length f.quarters ≡ 4 → MemberFiled g t f p u → (rs ms : List Row) → Owes t g rs ms → HoldsNext u p.«then» rs (ms ++ kind.Bid f ∷ [])
+pub member_holds : (g : GroupUnderway) (t u : List ℕ) (f : BidFields) (p : Filed Membership) → length f.quarters ≡ 4 → MemberFiled g t f p u → (rs ms : List Row) → Owes t g rs ms → HoldsNext u p.next rs (ms ++ kind.Bid f ∷ [])
 member_holds g t u f p l k rs ms o =
     let j = joins (admitted (length t) g.length g.rows (kind.Bid f)) g.group g.first f.area (Some (kind.Bid f)) k.passed in
     let q = passes (length t) g.length g.rows (kind.Bid f) (Some (kind.Bid f)) j.0 in

@@ -11,17 +11,15 @@ use Rattle.book.specs.Rows.{row_size, row_bytes}
 use Rattle.writer.specs.declared.state.OpenBook.{OpenBook}
 use Rattle.writer.specs.declared.state.GroupUnderway.{GroupUnderway}
 use Rattle.writer.specs.declared.state.Filed.{Filed}
-use Rattle.writer.specs.declared.state.Begun.{Begun}
-use Rattle.writer.specs.declared.state.Joined.{Joined}
 use Rattle.writer.specs.declared.state.Membership.{Membership}
 use Rattle.writer.specs.declared.state.Membership.TheVariants.{More, Last}
 use Rattle.writer.specs.declared.state.Refused.{Refused}
 use Rattle.writer.specs.Admit.{roomed, admitted, member_admitted}
 
 -- a row was filed: its bytes stand behind the book so far, and all others are as they were
-pub record RowFiled (b : OpenBook) (t : List ℕ) (r : Row) (p : Filed) (u : List ℕ) : Type 0 where
+pub record RowFiled (b : OpenBook) (t : List ℕ) (r : Row) (p : Filed OpenBook) (u : List ℕ) : Type 0 where
   pub passed : admitted (length t) b.length b.rows r ≡ Ok (Some r)
-  pub book : p.book ≡ record { length = b.length + row_size r; rows = b.rows + 1 }
+  pub next : p.next ≡ record { length = b.length + row_size r; rows = b.rows + 1 }
   pub row : p.row ≡ b.rows
   pub text : u ≡ placed t b.length (row_bytes r)
 
@@ -32,9 +30,9 @@ pub record Unchanged {B X : Type 0} (b : B) (t : List ℕ) (x : Result X Told) (
   pub text : u ≡ t
 
 -- a group was begun
-pub record GroupBegun (b : OpenBook) (t : List ℕ) (members : ℕ) (p : Begun) (u : List ℕ) : Type 0 where
+pub record GroupBegun (b : OpenBook) (t : List ℕ) (members : ℕ) (p : Filed GroupUnderway) (u : List ℕ) : Type 0 where
   pub passed : admitted (length t) b.length b.rows (kind.Group members) ≡ Ok (Some (kind.Group members))
-  pub group : p.group ≡ record { length = b.length + 2; rows = b.rows + 1; due = members; group = b.rows; before = b.length; first = None }
+  pub next : p.next ≡ record { length = b.length + 2; rows = b.rows + 1; due = members; group = b.rows; before = b.length; first = None }
   pub row : p.row ≡ b.rows
   pub text : u ≡ placed t b.length (0x45 ∷ members ∷ [])
 
@@ -43,9 +41,9 @@ abbrev pub member_next : GroupUnderway → ℕ → Membership
 member_next g area = cond (nat_le g.due 1) (Last (record { length = g.length + 51; rows = g.rows + 1 })) (More (record { length = g.length + 51; rows = g.rows + 1; due = g.due - 1; group = g.group; before = g.before; first = Some (unwrap_or g.first area) }))
 
 -- a member was filed
-pub record MemberFiled (g : GroupUnderway) (t : List ℕ) (f : BidFields) (p : Joined) (u : List ℕ) : Type 0 where
+pub record MemberFiled (g : GroupUnderway) (t : List ℕ) (f : BidFields) (p : Filed Membership) (u : List ℕ) : Type 0 where
   pub passed : member_admitted (length t) g f ≡ Ok (Some (kind.Bid f))
-  pub next : p.«then» ≡ member_next g f.area
+  pub next : p.next ≡ member_next g f.area
   pub row : p.row ≡ g.rows
   pub text : u ≡ placed t g.length (row_bytes (kind.Bid f))
 

@@ -1,6 +1,5 @@
 -- The row that a lawful row is, by its fields.
 use Rattle.std.specs.Prelude.{Some, Ok, Err, Option, Result}
-use Rattle.book.specs.declared.fault.BookFault.{BookFault}
 use Rattle.book.specs.declared.row.Row.{Row}
 use Rattle.book.specs.declared.row.Row.TheVariants as kind
 use Rattle.writer.specs.declared.lawful.LawfulRow.{LawfulRow}
@@ -12,6 +11,6 @@ row_of (lawful.Group g) = kind.Group g.members
 row_of (lawful.Need n) = kind.Need n.fields
 row_of (lawful.Border b) = kind.Border b.fields
 
-abbrev pub row_in : Result LawfulRow BookFault → Result (Option Row) BookFault
+abbrev pub row_in : {E : Type 0} → Result LawfulRow E → Result (Option Row) E
 row_in (Ok l) = Ok (Some (row_of l))
 row_in (Err e) = Err e

@@ -9,27 +9,36 @@ use bid::group::same_area;
 use book::fault::{BookFault, MOST_ROWS};
 use book::row::Row;
 
-// Has a text of `len` bytes room for `size` more behind the first `at`? `rows` are filed so far.
-pub fn room(len: usize, at: usize, rows: usize, size: usize) -> Result<(), BookFault>
-    ensures { heard told_book result ≡ roomed len at rows size }
-{
-    if len >= at && len - at >= size {
-        Ok(())
-    } else {
-        Err(BookFault::Short(rows))
-    }
+// What a writer has before it: a text of `len` bytes, of which the first `at` are written, in so many rows.
+#[derive(Clone, Copy)]
+pub struct Desk {
+    pub len: usize,
+    pub at: usize,
+    pub rows: usize,
 }
 
-// The row as the next of a book, or what it is refused for: 22, 23, 24, 26, in this order.
-pub fn admit(len: usize, at: usize, rows: usize, row: Row) -> Result<LawfulRow, BookFault>
-    ensures { heard told_book (row_in result) ≡ admitted len at rows row }
-{
-    if rows >= MOST_ROWS {
-        return Err(BookFault::Full);
+impl Desk {
+    // Has the text room for `size` bytes more?
+    pub fn room(self, size: usize) -> Result<(), BookFault>
+        ensures { heard told_book result ≡ roomed self.len self.at self.rows size }
+    {
+        match self.len.checked_sub(self.at) {
+            Some(left) if left >= size => Ok(()),
+            _ => Err(BookFault::Short(self.rows)),
+        }
     }
-    let lawful = LawfulRow::of(row, rows)?;
-    room(len, at, rows, row.size())?;
-    Ok(lawful)
+
+    // The row as the next of a book, or what it is refused for: 22, 23, 24, 26, in this order.
+    pub fn admit(self, row: Row) -> Result<LawfulRow, BookFault>
+        ensures { heard told_book (row_in result) ≡ admitted self.len self.at self.rows row }
+    {
+        if self.rows >= MOST_ROWS {
+            return Err(BookFault::Full);
+        }
+        let lawful = LawfulRow::of(row, self.rows)?;
+        self.room(row.size())?;
+        Ok(lawful)
+    }
 }
 
 // A row that was admitted as a member, or 25 where its area is not that of the first member.

@@ -1,6 +1,7 @@
-ghost use Rattle.std.specs.Prelude.{◌≡◌, ◌+◌, ◌≤◌, length};
+ghost use Rattle.std.specs.Prelude.{◌≡◌, ℕ, ◌+◌, ◌≤◌, length};
 ghost use Rattle.byte_layer.specs.Fault.{heard};
 ghost use Rattle.byte_layer.specs.Number.{placed};
+ghost use Rattle.units.specs.Field.{told_field};
 ghost use Rattle.book.specs.Fault.{told_book};
 ghost use Rattle.book.specs.Rows.{row_size, row_bytes, row_judged};
 ghost use Rattle.writer.specs.Lawful.{row_of, row_in};
@@ -13,6 +14,7 @@ use book::row::Row;
 use border::lawful::Border;
 use byte_layer::number::write_bytes;
 use need::lawful::Need;
+use units::field::FieldFault;
 
 // A row whose fields keep every rule.
 #[derive(Clone, Copy)]
@@ -23,29 +25,28 @@ pub enum LawfulRow {
     Border(Border),
 }
 
+// The lawful row of these fields, or the first rule that they break.
+impl TryFrom<Row> for LawfulRow {
+    type Error = FieldFault;
+
+    ghost try_from_gives = { λ row r. (number : ℕ) → heard (told_field number) (row_in r) ≡ row_judged number row };
+
+    fn try_from(row: Row) -> Result<LawfulRow, FieldFault> {
+        match row {
+            Row::Bid(fields) => Ok(LawfulRow::Bid(Bid::try_from(fields)?)),
+            Row::Group(members) => Ok(LawfulRow::Group(GroupSize::try_from(members)?)),
+            Row::Need(fields) => Ok(LawfulRow::Need(Need::try_from(fields)?)),
+            Row::Border(fields) => Ok(LawfulRow::Border(Border::try_from(fields)?)),
+        }
+    }
+}
+
 impl LawfulRow {
-    // The lawful row of these fields, or the first rule that they break in the row of that number.
+    // The same, with the fault in the row of that number.
     pub fn of(row: Row, number: usize) -> Result<LawfulRow, BookFault>
         ensures { heard told_book (row_in result) ≡ row_judged number row }
     {
-        match row {
-            Row::Bid(fields) => match Bid::of(fields) {
-                Ok(bid) => Ok(LawfulRow::Bid(bid)),
-                Err(fault) => Err(BookFault::in_row(fault, number)),
-            },
-            Row::Group(members) => match GroupSize::of(members) {
-                Ok(size) => Ok(LawfulRow::Group(size)),
-                Err(fault) => Err(BookFault::in_row(fault, number)),
-            },
-            Row::Need(fields) => match Need::of(fields) {
-                Ok(need) => Ok(LawfulRow::Need(need)),
-                Err(fault) => Err(BookFault::in_row(fault, number)),
-            },
-            Row::Border(fields) => match Border::of(fields) {
-                Ok(border) => Ok(LawfulRow::Border(border)),
-                Err(fault) => Err(BookFault::in_row(fault, number)),
-            },
-        }
+        LawfulRow::try_from(row).map_err(|fault| BookFault::in_row(fault, number))
     }
 
     // Writes the row's command into a text from a place on.

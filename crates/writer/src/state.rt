@@ -21,16 +21,10 @@ pub struct GroupUnderway {
     pub(crate) first: Option<u8>,
 }
 
-// What a row that was filed leaves: the book, and the row's number.
+// What a row that was filed leaves, and the row's number.
 #[derive(Drop)]
-pub struct Filed {
-    pub book: OpenBook,
-    pub row: usize,
-}
-
-// What a group that was begun leaves: the group underway, and the number of its row.
-pub struct Begun {
-    pub group: GroupUnderway,
+pub struct Filed<B> {
+    pub next: B,
     pub row: usize,
 }
 
@@ -38,12 +32,6 @@ pub struct Begun {
 pub enum Membership {
     More(GroupUnderway),
     Last(OpenBook),
-}
-
-// A member that was filed: what it leaves, and its row's number.
-pub struct Joined {
-    pub then: Membership,
-    pub row: usize,
 }
 
 // What a refused call gives back, as it came, and why.

@@ -4,8 +4,8 @@ ghost use Rattle.writer.specs.Admit.{member_admitted};
 ghost use Rattle.writer.specs.Calls.{member_next, MemberFiled, Unchanged};
 ghost use Rattle.writer.specs.Holding.{Holds, Owes, HoldsNext};
 
-use crate::admit::{admit, join};
-use crate::state::{GroupUnderway, Joined, Membership, OpenBook, Refused};
+use crate::admit::{Desk, join};
+use crate::state::{Filed, GroupUnderway, Membership, OpenBook, Refused};
 use bid::fields::BidFields;
 use book::row::Row;
 use units::limit::are_four;
@@ -45,19 +45,24 @@ impl GroupUnderway {
         self,
         text: &mut [u8],
         fields: BidFields,
-    ) -> Result<Joined, Refused<GroupUnderway>>
+    ) -> Result<Filed<Membership>, Refused<GroupUnderway>>
         ensures outcome { MatchResult result (λ p. MemberFiled self text.old fields p text.new) (λ p. Unchanged self text.old (member_admitted (length text.old) self fields) p text.new) }
-        ensures holds { IfOk result (λ p. (rs ms : List Row) → Owes text.old self rs ms → HoldsNext text.new p.«then» rs (ms ++ kind.Bid fields ∷ [])) }
+        ensures holds { IfOk result (λ p. (rs ms : List Row) → Owes text.old self rs ms → HoldsNext text.new p.next rs (ms ++ kind.Bid fields ∷ [])) }
     {
         are_four(&fields.quarters);
-        let admitted = admit(text.len(), self.length, self.rows, Row::Bid(fields));
+        let desk = Desk {
+            len: text.len(),
+            at: self.length,
+            rows: self.rows,
+        };
+        let admitted = desk.admit(Row::Bid(fields));
         match join(admitted, self.group, self.first, fields.area) {
             Err(fault) => Err(Refused { back: self, fault }),
             Ok(lawful) => {
                 let row = self.rows;
                 lawful.write(text, self.length);
-                Ok(Joined {
-                    then: self.onward(fields.area),
+                Ok(Filed {
+                    next: self.onward(fields.area),
                     row,
                 })
             }

@@ -1,21 +1,15 @@
-use Rattle.std.proofs.Common.{ℕ, ◌+◌, length, refl, ap, ◌∙◌, arith}
-use Rattle.byte_layer.specs.Number.{placed}
+use Rattle.std.proofs.Common.{length, subst, MatchResult}
 use Rattle.book.specs.declared.row.Row.{Row}
-use Rattle.book.specs.Rows.{row_bytes}
-use Rattle.writer.specs.Lawful.{row_of}
-use Rattle.writer.proofs.Admits.{took}
+use Rattle.writer.specs.Admit.{admitted}
+use Rattle.writer.specs.Calls.{RowFiled, Unchanged}
+use Rattle.writer.proofs.Filing.{cases_made, filed_holds}
 use Rattle.writer.proofs.state.OpenBook.file.Goals as goal
 
-pub write-requires : goal.write-requires
-write-requires c = let k = took (length c.args.text.now) c.args.self.length c.args.self.rows c.args.row (row_of c.in-Ok.lawful) c.in-Ok.ensures in omega (arith, k.room, k.size)
-
-pub overflow_add-book : goal.overflow_add-book
-overflow_add-book c = let k = took (length c.args.text.now) c.args.self.length c.args.self.rows c.args.row (row_of c.in-Ok.lawful) c.in-Ok.ensures in omega (arith, k.room, c.size.ensures)
-
-pub overflow_add-book-in-Ok : goal.overflow_add-book-in-Ok
-overflow_add-book-in-Ok c = let k = took (length c.args.text.now) c.args.self.length c.args.self.rows c.args.row (row_of c.in-Ok.lawful) c.in-Ok.ensures in omega (arith, k.few)
-
-pub returns-in-Ok : goal.returns-in-Ok
-returns-in-Ok c =
-    let k = took (length c.args.text.now) c.args.self.length c.args.self.rows c.args.row (row_of c.in-Ok.lawful) c.in-Ok.ensures in
-    record { passed = k.passed; book = ap (λ (n : ℕ). record { length = c.args.self.length + n; rows = c.args.self.rows + 1 }) c.size.ensures; row = refl; text = c.write.ensures ∙ ap (λ (x : Row). placed c.args.text.now c.args.self.length (row_bytes x)) k.same }
+pub returns : goal.returns
+returns g c =
+    let b = c.args.self in
+    let t = c.args.text.now in
+    let u = c.file_row.new.text in
+    let row = g.F.Fields.as_row c.args.fields in
+    let o = subst (λ (r : Row). MatchResult c.file_row.result (λ p. RowFiled b t r p u) (λ p. Unchanged b t (admitted (length t) b.length b.rows r) p u)) c.row-row.ensures.row c.file_row.ensures in
+    record { outcome = o; holds = cases_made c.file_row.result _ _ _ o (λ p f. filed_holds b t u row p c.row-row.ensures.single c.row-row.ensures.four f) }
