@@ -1,3 +1,5 @@
+pub mod Chains
+pub mod Pricing
 pub mod Machine
 pub mod Terms
 pub mod Alone
