@@ -1,8 +1,8 @@
 -- Prices that are all within the cap, and the test of them.
-use Rattle.std.proofs.Common.{◌≡◌, ℕ, ◌≤◌, Bool, true, false, ◌&&◌, List, length, ℤ, pos, neg_ℤ, nat_abs, ap, arith}
+use Rattle.std.proofs.Common.{◌≡◌, ℕ, ◌≤◌, Bool, true, false, List, length, ℤ, pos, neg_ℤ, nat_abs, arith}
 use lib.Signed.{le_z}
 use Rattle.std.proofs.lemmas.Int.{ints}
-use Rattle.std.proofs.lemmas.Bool.{and_from, both_ways}
+use Rattle.std.proofs.lemmas.Bool.{and_from}
 use Rattle.units.specs.Limit.{is_price, cap}
 use Rattle.lot.specs.Sum.{every}
 use Rattle.lot.specs.Page.{table_of, Priced}

@@ -1,8 +1,7 @@
-use Rattle.std.proofs.Common.{◌≡◌, ℕ, Bool, true, false, sym, refl, ◌∙◌, arith, rules, tests}
+use Rattle.std.proofs.Common.{◌≡◌, sym, refl, ◌∙◌, rules, tests}
 use Rattle.std.proofs.lemmas.Bool.{both_ways}
 use Rattle.std.proofs.lemmas.Iterator.{YieldsList-from_range}
 use Rattle.std.proofs.lemmas.Iterator.Search.{all_from_yields_List}
-use Rattle.units.specs.Limit.{is_price}
 use Rattle.lot.specs.Sum.{every}
 use Rattle.lot.proofs.Chains.{all_range}
 use Rattle.lot.proofs.Pricing.{area_passes, priced_from, priced_passes, unpriced}
@@ -17,9 +16,9 @@ invariant_of-result c =
 
 pub returns-else-self-eq-PRICE_BYTES-clause-when : goal.returns-else-self-eq-PRICE_BYTES-clause-when
 returns-else-self-eq-PRICE_BYTES-clause-when c = unpriced c.args.self.bytes.now (λ p. elim c.else-self-eq-PRICE_BYTES.branch [
-    else-self-eq-PRICE_BYTES-via-then-self-eq-PRICE_BYTES+else-all w ↦
-    let F = area_passes c.args.self.bytes.now in
-    let all : w.all.result ≡ every 32 F = all_from_yields_List F _ _ _ w.all.ensures.ran (YieldsList-from_range 0 32 32 refl refl) (λ x b q k. search (rules, tests)) ∙ all_range 32 F in
-    both_ways w.all.result w.if-all.false (all ∙ priced_passes _ p)
+  | else-self-eq-PRICE_BYTES-via-then-self-eq-PRICE_BYTES+else-all w ↦
+      let F = area_passes c.args.self.bytes.now in
+      let all : w.all.result ≡ every 32 F = all_from_yields_List F _ _ _ w.all.ensures.ran (YieldsList-from_range 0 32 32 refl refl) (λ x b q k. search (rules, tests)) ∙ all_range 32 F in
+      both_ways w.all.result w.if-all.false (all ∙ priced_passes _ p)
   | else-self-eq-PRICE_BYTES-via-else-self-eq-PRICE_BYTES w ↦ w.if-self-eq-PRICE_BYTES.false p.long
-  ])
+])
