@@ -99,8 +99,10 @@ module _ (T : Trade) (x : TradeTerms) (is : TermsOf T x) where
   pub terms_gain : (p : Prices) → four (gain (trade_of x) p) ≡ four (gain T p)
   terms_gain p = λ i. four (λ t. turned (way i) (p (is.area i) t -ℤ at (is.limits i) t))
 
-  -- the surplus of quantities f, as one sum
-  pub earned : (p : List ℕ) (g : List ℤ) → g ≡ four (gain (trade_of x) (table_of p)) → (f : ℕ → ℤ) (q : List ℤ) → q ≡ four f → (r : ℤ) → r ≡ sum 4 (λ t. at q t *ℤ at g t) → r ≡ sum 4 (λ t. f t *ℤ gain T (table_of p) t)
-  earned p g eg f q eq r e =
-      let are : g ≡ four (gain T (table_of p)) = eg ∙ terms_gain (table_of p) in
-      e ∙ (λ i. sum 4 (λ t. at (eq i) t *ℤ at (are i) t)) ∙ dot_fours f (gain T (table_of p))
+  module _ (p : List ℕ) (g : List ℤ) (eg : g ≡ four (gain (trade_of x) (table_of p))) where
+    pub gains_are : g ≡ four (gain T (table_of p))
+    gains_are = eg ∙ terms_gain (table_of p)
+
+    -- the surplus of quantities f, as one sum
+    pub earned : (f : ℕ → ℤ) (q : List ℤ) → q ≡ four f → (r : ℤ) → r ≡ sum 4 (λ t. at q t *ℤ at g t) → r ≡ sum 4 (λ t. f t *ℤ gain T (table_of p) t)
+    earned f q eq r e = e ∙ (λ i. sum 4 (λ t. at (eq i) t *ℤ at (gains_are i) t)) ∙ dot_fours f (gain T (table_of p))
