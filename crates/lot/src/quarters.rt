@@ -47,6 +47,5 @@ pub fn is_zero(number: i32) -> bool
 pub fn is_idle(cells: &[i32; 4]) -> bool
     ensures { result ≡ idle_row (at cells.now) }
 {
-    let [a, b, c, d] = *cells;
-    all_four(is_zero(a), is_zero(b), is_zero(c), is_zero(d))
+    cells.iter().all(|cell| *cell == 0)
 }

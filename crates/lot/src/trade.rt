@@ -5,6 +5,7 @@ ghost use Rattle.lot.specs.Trade.{turned, trade_net, trade_worth, gain as gainOf
 
 use crate::quarters::dot;
 use crate::views::CappedPrices;
+use std::array;
 
 // What a trade does with power. Whoever sells puts it in; whoever buys takes it out.
 #[derive(Clone, Copy)]
@@ -44,13 +45,7 @@ impl Direction {
         requires { AllWithin 99999 quantities.now }
         ensures { result ≡ four (λ t. turned (sells self) (at quantities.now t)) }
     {
-        let [a, b, c, d] = *quantities;
-        [
-            self.turned(a),
-            self.turned(b),
-            self.turned(c),
-            self.turned(d),
-        ]
+        quantities.map(|quantity| self.turned(quantity))
     }
 
     // What one unit gains at a price over its limit.
@@ -67,14 +62,7 @@ impl Direction {
         requires limits { AllWithin 9999999 limits.now }
         ensures { result ≡ four (λ t. turned (sells self) (at prices.now t -ℤ at limits.now t)) }
     {
-        let [a, b, c, d] = *prices;
-        let [w, x, y, z] = *limits;
-        [
-            self.gain(a, w),
-            self.gain(b, x),
-            self.gain(c, y),
-            self.gain(d, z),
-        ]
+        array::from_fn(|t| self.gain(prices[t], limits[t]))
     }
 }
 

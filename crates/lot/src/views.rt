@@ -4,6 +4,7 @@ ghost use Rattle.lot.specs.Sum.{every};
 ghost use Rattle.units.specs.Limit.{is_price};
 
 use byte_layer::number::read_i32;
+use std::array;
 use units::limit::is_price;
 
 // The bytes of one row of a page: a command byte, and four numbers of 4 bytes.
@@ -25,12 +26,7 @@ fn row_in(bytes: &[u8], row: usize) -> [i32; 4]
     requires { 17 * row + 17 ≤ length bytes.now }
     ensures { result ≡ four (table_of bytes.now row) }
 {
-    [
-        number_in(bytes, row, 0),
-        number_in(bytes, row, 1),
-        number_in(bytes, row, 2),
-        number_in(bytes, row, 3),
-    ]
+    array::from_fn(|quarter| number_in(bytes, row, quarter))
 }
 
 // The cells of a page, where they lie in its bytes: 17 bytes to a cell row.
