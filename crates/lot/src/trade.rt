@@ -34,7 +34,7 @@ impl Direction {
         ensures { result ≡ (if nat_eq area home then turned (sells self) quantity else pos 0) }
     {
         if area == home {
-            self.turned(quantity) as i64
+            i64::from(self.turned(quantity))
         } else {
             0
         }
