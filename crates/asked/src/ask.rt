@@ -1,7 +1,7 @@
 ghost use Rattle.std.specs.Prelude.{◌≡◌, ℕ};
 ghost use Rattle.asked.specs.Asked.{refused_of, net_of, worth_of, amount_of, best_of, broken_of, Ceiling};
 
-use crate::may::{may_ask, may_figure, may_hold, may_price};
+use crate::may::{may_ask, may_figure, may_hold};
 use lot::lot::Lot;
 use lot::views::{Cells, Prices};
 
@@ -42,7 +42,8 @@ pub fn worth<L: Lot>(lot: &L, cells: Cells<'_>, row: usize) -> Option<i64>
 pub fn amount<L: Lot>(lot: &L, cells: Cells<'_>, prices: Prices<'_>, row: usize) -> Option<i64>
     ensures { result ≡ amount_of (L.Lot.meaning lot.now) cells.entry.bytes.now prices.entry.bytes.now row }
 {
-    if may_figure(lot, cells) && may_price(prices) && row < lot.row_count() {
+    let prices = prices.capped()?;
+    if may_figure(lot, cells) && row < lot.row_count() {
         Some(lot.amount(cells, prices, row))
     } else {
         None
@@ -54,7 +55,8 @@ pub fn best<L: Lot>(lot: &L, prices: Prices<'_>) -> Option<i64>
     ensures value { result ≡ best_of (L.Lot.meaning lot.now) prices.entry.bytes.now }
     ensures ceiling { Ceiling (L.Lot.meaning lot.now) }
 {
-    if may_ask(lot) && may_price(prices) {
+    let prices = prices.capped()?;
+    if may_ask(lot) {
         Some(lot.best(prices))
     } else {
         None
@@ -65,7 +67,8 @@ pub fn best<L: Lot>(lot: &L, prices: Prices<'_>) -> Option<i64>
 pub fn broken<L: Lot>(lot: &L, cells: Cells<'_>, prices: Prices<'_>) -> Option<Option<usize>>
     ensures { result ≡ broken_of (L.Lot.meaning lot.now) cells.entry.bytes.now prices.entry.bytes.now }
 {
-    if may_figure(lot, cells) && may_price(prices) {
+    let prices = prices.capped()?;
+    if may_figure(lot, cells) {
         Some(lot.broken_row(cells, prices))
     } else {
         None

@@ -1,7 +1,7 @@
 ghost use Rattle.std.specs.Prelude.{◌≡◌, ◌&&◌, pos, ◌*ℤ◌, int_le};
 ghost use Rattle.units.specs.Side.{is_upward};
 ghost use Rattle.lot.specs.Sum.{same_z};
-ghost use Rattle.lot.specs.Direction.{towards, terms_of};
+ghost use Rattle.lot.specs.Direction.{towards, TermsOf};
 ghost use Rattle.lot.specs.Page.{at, four, AllWithin};
 ghost use Rattle.lot.specs.Single.{single};
 ghost use Rattle.lot.specs.Laws.Joins.{settled_always};
@@ -14,7 +14,7 @@ use crate::lawful::Bid;
 use lot::lot::Lot;
 use lot::quarters::{all_four, dot, is_idle, product};
 use lot::trade::{Direction, TradeTerms};
-use lot::views::{Cells, Prices};
+use lot::views::{CappedPrices, Cells};
 use units::side::Side;
 
 // An upward bid sells, a downward one buys.
@@ -98,7 +98,7 @@ impl Bid {
 
     // The trade that the bid offers.
     fn terms(&self) -> TradeTerms
-        ensures { result ≡ terms_of (bid_trade self.now.fields) }
+        ensures { TermsOf (bid_trade self.now.fields) result }
     {
         TradeTerms {
             area: self.fields.area as usize,
@@ -146,15 +146,15 @@ impl Lot for Bid {
         self.terms().worth(&cells.row(0))
     }
 
-    fn amount(&self, cells: Cells<'_>, prices: Prices<'_>, _row: usize) -> i64 {
+    fn amount(&self, cells: Cells<'_>, prices: CappedPrices<'_>, _row: usize) -> i64 {
         self.terms().amount(&cells.row(0), prices)
     }
 
-    fn best(&self, prices: Prices<'_>) -> i64 {
+    fn best(&self, prices: CappedPrices<'_>) -> i64 {
         dot(&self.maxima(), &self.terms().gains(prices)).max(0)
     }
 
-    fn broken_row(&self, cells: Cells<'_>, prices: Prices<'_>) -> Option<usize> {
+    fn broken_row(&self, cells: Cells<'_>, prices: CappedPrices<'_>) -> Option<usize> {
         let surplus = dot(&cells.row(0), &self.terms().gains(prices));
         if surplus >= 0 { None } else { Some(0) }
     }

@@ -8,7 +8,7 @@ use crate::lawful::Border;
 use lot::lot::Lot;
 use lot::quarters::dot;
 use lot::trade::Direction;
-use lot::views::{Cells, Prices};
+use lot::views::{CappedPrices, Cells};
 
 // A border as a lot of one row: its four cells are the flow, and its amount is the rent.
 impl Lot for Border {
@@ -47,7 +47,7 @@ impl Lot for Border {
     }
 
     // A unit that flows is bought at the first price and sold at the second.
-    fn amount(&self, cells: Cells<'_>, prices: Prices<'_>, row: usize) -> i64 {
+    fn amount(&self, cells: Cells<'_>, prices: CappedPrices<'_>, row: usize) -> i64 {
         let flow = cells.row(0);
         let first = prices.area(self.fields.from as usize);
         let second = prices.area(self.fields.to as usize);
@@ -55,11 +55,11 @@ impl Lot for Border {
         dot(&flow, &gaps)
     }
 
-    fn best(&self, prices: Prices<'_>) -> i64 {
+    fn best(&self, prices: CappedPrices<'_>) -> i64 {
         self.greatest_rent(prices)
     }
 
-    fn broken_row(&self, cells: Cells<'_>, prices: Prices<'_>) -> Option<usize> {
+    fn broken_row(&self, cells: Cells<'_>, prices: CappedPrices<'_>) -> Option<usize> {
         let flow = cells.row(0);
         if self.keeps_rule(&flow, prices) {
             None

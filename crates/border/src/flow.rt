@@ -1,5 +1,5 @@
 ghost use Rattle.std.specs.Prelude.{◌≡◌, ℕ, ◌+◌, ◌<◌, [], ◌∷◌};
-ghost use Rattle.lot.specs.Page.{at, table_of, Priced};
+ghost use Rattle.lot.specs.Page.{at, table_of};
 ghost use Rattle.border.specs.Flow.{every_of, steady, passes, carried, stretch, flowing};
 
 use crate::fields::BorderQuarter;
@@ -7,7 +7,7 @@ use crate::lawful::Border;
 use crate::step::Step;
 use crate::stretch::Stretch;
 use lot::quarters::add_four;
-use lot::views::Prices;
+use lot::views::CappedPrices;
 
 // Whether a flow is the same within each step.
 fn steady(step: Step, flow: &[i32; 4]) -> bool
@@ -61,9 +61,8 @@ impl Border {
     }
 
     // One quarter at the prices.
-    fn quarter(&self, prices: Prices<'_>, quarter: usize) -> Stretch
-        requires priced { Priced prices.bytes.now }
-        requires quarter { quarter < 4 }
+    fn quarter(&self, prices: CappedPrices<'_>, quarter: usize) -> Stretch
+        requires { quarter < 4 }
         ensures { result ≡ stretch self.now.fields (table_of prices.entry.bytes.now) (quarter, []) }
     {
         let atcs = self.fields.quarters[quarter];
@@ -77,9 +76,8 @@ impl Border {
     }
 
     // A quarter and the next.
-    fn half(&self, prices: Prices<'_>, quarter: usize) -> Stretch
-        requires priced { Priced prices.bytes.now }
-        requires quarter { quarter + 1 < 4 }
+    fn half(&self, prices: CappedPrices<'_>, quarter: usize) -> Stretch
+        requires { quarter + 1 < 4 }
         ensures { result ≡ stretch self.now.fields (table_of prices.entry.bytes.now) (quarter, (quarter + 1) ∷ []) }
     {
         let former = self.quarter(prices, quarter);
@@ -88,8 +86,7 @@ impl Border {
     }
 
     // All four quarters.
-    fn hour(&self, prices: Prices<'_>) -> Stretch
-        requires priced { Priced prices.bytes.now }
+    fn hour(&self, prices: CappedPrices<'_>) -> Stretch
         ensures { result ≡ stretch self.now.fields (table_of prices.entry.bytes.now) (0, 1 ∷ 2 ∷ 3 ∷ []) }
     {
         let latter = self.half(prices, 2);
@@ -99,8 +96,7 @@ impl Border {
     }
 
     // The greatest rents of the steps, summed.
-    pub(crate) fn greatest_rent(&self, prices: Prices<'_>) -> i64
-        requires { Priced prices.bytes.now }
+    pub(crate) fn greatest_rent(&self, prices: CappedPrices<'_>) -> i64
         ensures { result ≡ (flowing self.now.fields).best (table_of prices.entry.bytes.now) }
     {
         match self.fields.step {
@@ -121,8 +117,7 @@ impl Border {
     }
 
     // Whether a flow keeps the price rule in every step.
-    pub(crate) fn keeps_rule(&self, flow: &[i32; 4], prices: Prices<'_>) -> bool
-        requires { Priced prices.bytes.now }
+    pub(crate) fn keeps_rule(&self, flow: &[i32; 4], prices: CappedPrices<'_>) -> bool
         ensures { result ≡ (flowing self.now.fields).keeps (at flow.now) (table_of prices.entry.bytes.now) }
     {
         let [a, b, c, d] = *flow;

@@ -1,3 +1,6 @@
+pub mod Chains
+pub mod Pricing
+pub mod Dots
 pub mod Machine
 pub mod Terms
 pub mod Alone

@@ -66,6 +66,15 @@ sum_back {r} {s} e h l = ap (λ x. to_z w64 (of_z w64 x)) e ∙ back64 h l
 pub passed : {A : Type 0} (f : ℤ → A) {r : A} {z : ℤ} → SFits w32 z → r ≡ f (to_z w32 (of_z w32 z)) → r ≡ f z
 passed f {r} {z} h e = e ∙ ap f (to_z-of_z w32 z h)
 
+-- one of four small numbers
+pub fits_at : {n : ℕ} {xs : List ℤ} → AllWithin n xs → (t : ℕ) → t < 4 → n < 2 ^ 31 → SFits w32 (at xs t)
+fits_at {n} {xs} h t l k = within_fits32 {n = n} (record { size = each_within h t l }) k
+
+pub passed_at : {n m : ℕ} {xs : List ℤ} → AllWithin n xs → (t : ℕ) → t < 4 → n ≤ m → m < 2 ^ 31 → Within m (to_z w32 (of_z w32 (at xs t)))
+passed_at {n} {m} {xs} h t l k b =
+    let one : Within m (at xs t) = within_more {n = n} (record { size = each_within h t l }) k in
+    subst (Within m) (sym (to_z-of_z w32 (at xs t) (within_fits32 one b))) one
+
 -- four numbers that went through their bits into an array
 pub four_back : {n : ℕ} (f : ℕ → ℤ) → ((t : ℕ) → t < 4 → nat_abs (f t) ≤ n) → n < 2 ^ 31
     → ◌≡◌ {A = List ℤ} (to_z w32 (of_z w32 (f 0)) ∷ to_z w32 (of_z w32 (f 1)) ∷ to_z w32 (of_z w32 (f 2)) ∷ to_z w32 (of_z w32 (f 3)) ∷ []) (four f)

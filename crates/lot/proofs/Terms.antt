@@ -8,7 +8,7 @@ use Rattle.lot.specs.Sum.{sum}
 use Rattle.lot.specs.Meaning.{Prices, money}
 use Rattle.lot.specs.Page.{table_of, four, at, Within, AllWithin, Priced}
 use Rattle.lot.specs.Trade.{Trade, turned, trade_net, quarter_worth, trade_worth, quarter_amount, gain}
-use Rattle.lot.specs.Direction.{sells, towards, trade_of, terms_of, Fair}
+use Rattle.lot.specs.Direction.{sells, towards, trade_of, TermsOf}
 use Rattle.lot.specs.Laws.Sums.{sum_same, each_four}
 use Rattle.lot.specs.Laws.Trades.{abs_turned, worth_is, trade_money, gain_within}
 use Rattle.lot.proofs.Machine.{within_more, each_within, all_within, dot_within}
@@ -62,46 +62,46 @@ module _ (x : TradeTerms) (q ns : List ℤ) (en : ns ≡ four (λ t. turned (sel
   net_sum ps g e = sum_same 4 (λ t. at ns t *ℤ at ps t) (λ t. turned (sells x.direction) (at q t) *ℤ g t)
       (λ t l. ap₂ ◌*ℤ◌ (ap (λ ys. at ys t) en ∙ four_at (λ t. turned (sells x.direction) (at q t)) t l) (e t l))
 
-  module _ (fair : Fair x) {r : ℤ} (e : r ≡ sum 4 (λ t. at ns t *ℤ at x.limits t)) where
+  module _ {r : ℤ} (e : r ≡ sum 4 (λ t. at ns t *ℤ at x.limits t)) where
     pub worth_within : Within 7999919200008 r
-    worth_within = subst (Within 7999919200008) (sym e) (dot_within nets_small (all_more fair.priced (lit≤ tt)))
+    worth_within = subst (Within 7999919200008) (sym e) (dot_within nets_small (all_more x.fair.priced (lit≤ tt)))
 
     pub worth_same : neg_ℤ r ≡ trade_worth (trade_of x) (at q)
     worth_same = ap neg_ℤ (e ∙ net_sum x.limits (at x.limits) (λ t _. refl)) ∙ sym (worth_is (trade_of x) (at q))
 
-pub amount_same : (x : TradeTerms) (q ns ps : List ℤ) (b : List ℕ) → ns ≡ four (λ t. turned (sells x.direction) (at q t)) → ps ≡ four (table_of b x.area) → Fair x → (r : ℤ) → r ≡ sum 4 (λ t. at ns t *ℤ at ps t)
+pub amount_same : (x : TradeTerms) (q ns ps : List ℤ) (b : List ℕ) → ns ≡ four (λ t. turned (sells x.direction) (at q t)) → ps ≡ four (table_of b x.area) → (r : ℤ) → r ≡ sum 4 (λ t. at ns t *ℤ at ps t)
     → r ≡ money (trade_net (trade_of x) (at q)) (table_of b)
-amount_same x q ns ps b en ep fair r e =
+amount_same x q ns ps b en ep r e =
     e
     ∙ sum_same 4 (λ t. at ns t *ℤ at ps t) (quarter_amount (trade_of x) (at q) (table_of b))
     (λ t l. ap₂ ◌*ℤ◌ (ap (λ ys. at ys t) en ∙ four_at (λ t. turned (sells x.direction) (at q t)) t l) (ap (λ ys. at ys t) ep ∙ four_at (table_of b x.area) t l))
-    ∙ sym (trade_money (trade_of x) fair.inside (at q) (table_of b))
+    ∙ sym (trade_money (trade_of x) x.fair.inside (at q) (table_of b))
 
--- ---- the terms that stand for a trade
+-- what a unit gains
+pub gains_within : (x : TradeTerms) (b : List ℕ) → Priced b → AllWithin 19999998 (four (gain (trade_of x) (table_of b)))
+gains_within x b p = all_within (gain (trade_of x) (table_of b)) (gain_within (trade_of x) x.fair.inside (each_within x.fair.priced) (table_of b) p.capped)
+
+-- ---- the terms of a trade T
 pub towards_sells : (s : Bool) → sells (towards s) ≡ s
 towards_sells true = refl
 towards_sells false = refl
 
-pub terms_worth : (T : Trade) (q : ℕ → ℤ) → trade_worth (trade_of (terms_of T)) q ≡ trade_worth T q
-terms_worth T q = sum_same 4 (quarter_worth (trade_of (terms_of T)) q) (quarter_worth T q) (λ t l. ap₂ (λ s x. turned s (neg_ℤ (x *ℤ q t))) (towards_sells T.sells) (four_at T.limit t l))
+module _ (T : Trade) (x : TradeTerms) (is : TermsOf T x) where
+  way : sells x.direction ≡ T.sells
+  way = ap sells is.direction ∙ towards_sells T.sells
 
-pub terms_money : (T : Trade) (q : ℕ → ℤ) (p : Prices) → money (trade_net (trade_of (terms_of T)) q) p ≡ money (trade_net T q) p
-terms_money T q p = ap (λ s. money (trade_net (record { area = T.area; sells = s; limit = T.limit }) q) p) (towards_sells T.sells)
+  pub terms_worth : (q : ℕ → ℤ) → trade_worth (trade_of x) q ≡ trade_worth T q
+  terms_worth q = sum_same 4 (quarter_worth (trade_of x) q) (quarter_worth T q) (λ t l. ap₂ (λ s z. turned s (neg_ℤ (z *ℤ q t))) way (ap (λ ys. at ys t) is.limits ∙ four_at T.limit t l))
 
-pub terms_gain : (T : Trade) (p : Prices) → four (gain (trade_of (terms_of T)) p) ≡ four (gain T p)
-terms_gain T p = ap (λ s. four (λ t. turned s (p T.area t -ℤ T.limit t))) (towards_sells T.sells)
+  pub terms_money : (q : ℕ → ℤ) (p : Prices) → money (trade_net (trade_of x) q) p ≡ money (trade_net T q) p
+  terms_money q p = λ i. money (trade_net (record { area = is.area i; sells = way i; limit = T.limit }) q) p
 
--- the code's terms of a trade T
-module _ (T : Trade) (inside : T.area < 32) (priced : (t : ℕ) → t < 4 → nat_abs (T.limit t) ≤ 9999999) (x : TradeTerms) (ex : x ≡ terms_of T) where
-  pub fair : Fair x
-  fair = subst Fair (sym ex) (record { inside = inside; priced = all_within T.limit priced })
+  pub terms_gain : (p : Prices) → four (gain (trade_of x) p) ≡ four (gain T p)
+  terms_gain p = λ i. four (λ t. turned (way i) (p (is.area i) t -ℤ at (is.limits i) t))
 
-  module _ (p : List ℕ) (quoted : Priced p) (g : List ℤ) (eg : g ≡ four (gain (trade_of x) (table_of p))) where
+  module _ (p : List ℕ) (g : List ℤ) (eg : g ≡ four (gain (trade_of x) (table_of p))) where
     pub gains_are : g ≡ four (gain T (table_of p))
-    gains_are = eg ∙ ap (λ y. four (gain (trade_of y) (table_of p))) ex ∙ terms_gain T (table_of p)
-
-    pub gains_small : AllWithin 19999998 g
-    gains_small = subst (AllWithin 19999998) (sym gains_are) (all_within (gain T (table_of p)) (gain_within T inside priced (table_of p) quoted.capped))
+    gains_are = eg ∙ terms_gain (table_of p)
 
     -- the surplus of quantities f, as one sum
     pub earned : (f : ℕ → ℤ) (q : List ℤ) → q ≡ four f → (r : ℤ) → r ≡ sum 4 (λ t. at q t *ℤ at g t) → r ≡ sum 4 (λ t. f t *ℤ gain T (table_of p) t)

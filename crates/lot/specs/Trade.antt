@@ -1,7 +1,8 @@
 -- Power sold or bought in one area, at a price a quarter.
-use Rattle.std.specs.Prelude.{ℕ, Bool, true, false, cond, ℤ, pos, ◌-ℤ◌, ◌*ℤ◌, neg_ℤ, ◌==◌}
+use Rattle.std.specs.Prelude.{ℕ, ◌<◌, Bool, true, false, cond, List, ℤ, pos, ◌-ℤ◌, ◌*ℤ◌, neg_ℤ, ◌==◌}
 use Rattle.lot.specs.Sum.{sum}
 use Rattle.lot.specs.Meaning.{Prices}
+use Rattle.lot.specs.Page.{AllWithin}
 
 pub record Trade : Type 0 where
   pub area : ℕ
@@ -30,3 +31,8 @@ quarter_amount T q p t = turned T.sells (q t) *ℤ p T.area t
 -- what one unit gains at the prices
 abbrev pub gain : Trade → Prices → ℕ → ℤ
 gain T p t = turned T.sells (p T.area t -ℤ T.limit t)
+
+-- the area is one of the 32, and the limits are within the cap
+pub record Fair (area : ℕ) (limits : List ℤ) : Type 0 where
+  pub inside : area < 32
+  pub priced : AllWithin 9999999 limits

@@ -1,5 +1,5 @@
 use crate::lot::Lot;
-use crate::views::{Cells, Prices};
+use crate::views::{CappedPrices, Cells};
 
 // A lot that is lent is a lot.
 impl<'b, L: Lot> Lot for &'b L {
@@ -35,15 +35,15 @@ impl<'b, L: Lot> Lot for &'b L {
         (*self).worth(cells, row)
     }
 
-    fn amount(&self, cells: Cells<'_>, prices: Prices<'_>, row: usize) -> i64 {
+    fn amount(&self, cells: Cells<'_>, prices: CappedPrices<'_>, row: usize) -> i64 {
         (*self).amount(cells, prices, row)
     }
 
-    fn best(&self, prices: Prices<'_>) -> i64 {
+    fn best(&self, prices: CappedPrices<'_>) -> i64 {
         (*self).best(prices)
     }
 
-    fn broken_row(&self, cells: Cells<'_>, prices: Prices<'_>) -> Option<usize> {
+    fn broken_row(&self, cells: Cells<'_>, prices: CappedPrices<'_>) -> Option<usize> {
         (*self).broken_row(cells, prices)
     }
 }

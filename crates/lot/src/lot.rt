@@ -1,9 +1,9 @@
 ghost use Rattle.std.specs.Prelude.{◌≡◌, ℕ, ◌<◌, ◌≤◌, min};
 ghost use Rattle.lot.specs.Meaning.{Meaning, cell_rows, lot_net, amount as amount_of};
 ghost use Rattle.lot.specs.Duties.{Idle, Greatest, Settled, Unharmed, Limited, most_lot_rows};
-ghost use Rattle.lot.specs.Page.{table_of, Sized, Ready, Priced};
+ghost use Rattle.lot.specs.Page.{table_of, Sized, Ready};
 
-use crate::views::{Cells, Prices};
+use crate::views::{CappedPrices, Cells};
 
 // The most rows of a lot that is questioned. A count goes one further, and no more.
 pub const MOST_LOT_ROWS: usize = 4_096;
@@ -56,21 +56,18 @@ pub trait Lot {
         ensures { result ≡ (meaning self.now).worth (table_of cells.entry.bytes.now) row };
 
     // What a row's nets come to at the prices, in grains.
-    fn amount(&self, cells: Cells<'_>, prices: Prices<'_>, row: usize) -> i64
+    fn amount(&self, cells: Cells<'_>, prices: CappedPrices<'_>, row: usize) -> i64
         requires ready { Ready (meaning self.now) cells.bytes.now }
-        requires priced { Priced prices.bytes.now }
         requires row { row < (meaning self.now).rows }
         ensures { result ≡ amount_of (meaning self.now) (table_of cells.entry.bytes.now) (table_of prices.entry.bytes.now) row };
 
     // The greatest surplus at the prices, in grains.
-    fn best(&self, prices: Prices<'_>) -> i64
+    fn best(&self, prices: CappedPrices<'_>) -> i64
         requires few { (meaning self.now).rows ≤ most_lot_rows }
-        requires priced { Priced prices.bytes.now }
         ensures { result ≡ (meaning self.now).best (table_of prices.entry.bytes.now) };
 
     // None where the price rule is kept, else the row that is named.
-    fn broken_row(&self, cells: Cells<'_>, prices: Prices<'_>) -> Option<usize>
+    fn broken_row(&self, cells: Cells<'_>, prices: CappedPrices<'_>) -> Option<usize>
         requires ready { Ready (meaning self.now) cells.bytes.now }
-        requires priced { Priced prices.bytes.now }
         ensures { result ≡ (meaning self.now).broken (table_of cells.entry.bytes.now) (table_of prices.entry.bytes.now) };
 }

@@ -2,7 +2,6 @@ ghost use Rattle.std.specs.Prelude.{◌≡◌, ◌^◌, ◌&&◌, ◌+ℤ◌, �
 ghost use Rattle.lot.specs.Sum.{sum};
 ghost use Rattle.lot.specs.Page.{at, Within, AllWithin};
 ghost use Rattle.lot.specs.Single.{idle_row};
-ghost use Rattle.units.specs.Limit.{is_zero};
 
 // Sums over the four quarters, in grains.
 
@@ -10,7 +9,7 @@ ghost use Rattle.units.specs.Limit.{is_zero};
 pub fn product(a: i32, b: i32) -> i64
     ensures { result ≡ a *ℤ b }
 {
-    a as i64 * b as i64
+    i64::from(a) * i64::from(b)
 }
 
 pub fn add_four(a: i64, b: i64, c: i64, d: i64) -> i64
@@ -26,9 +25,11 @@ pub fn dot(quantities: &[i32; 4], prices: &[i32; 4]) -> i64
     requires prices { AllWithin 19999998 prices.now }
     ensures { result ≡ sum 4 (λ t. at quantities.now t *ℤ at prices.now t) }
 {
-    let [a, b, c, d] = *quantities;
-    let [w, x, y, z] = *prices;
-    add_four(product(a, w), product(b, x), product(c, y), product(d, z))
+    quantities
+        .iter()
+        .zip(prices)
+        .map(|(quantity, price)| product(*quantity, *price))
+        .sum()
 }
 
 pub fn all_four(a: bool, b: bool, c: bool, d: bool) -> bool
@@ -37,16 +38,9 @@ pub fn all_four(a: bool, b: bool, c: bool, d: bool) -> bool
     a && b && c && d
 }
 
-pub fn is_zero(number: i32) -> bool
-    ensures { result ≡ is_zero number }
-{
-    number == 0
-}
-
 // Are all four cells zero?
 pub fn is_idle(cells: &[i32; 4]) -> bool
     ensures { result ≡ idle_row (at cells.now) }
 {
-    let [a, b, c, d] = *cells;
-    all_four(is_zero(a), is_zero(b), is_zero(c), is_zero(d))
+    cells.iter().all(|cell| *cell == 0)
 }

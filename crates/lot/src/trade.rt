@@ -1,11 +1,11 @@
 ghost use Rattle.std.specs.Prelude.{◌≡◌, pos, ◌-ℤ◌, if◌then◌else◌, nat_eq};
 ghost use Rattle.lot.specs.Meaning.{money};
-ghost use Rattle.lot.specs.Page.{at, four, table_of, Within, AllWithin, Priced};
-ghost use Rattle.lot.specs.Trade.{turned, trade_net, trade_worth, gain as gainOf};
-ghost use Rattle.lot.specs.Direction.{sells, trade_of, Fair};
+ghost use Rattle.lot.specs.Page.{at, four, table_of, Within, AllWithin};
+ghost use Rattle.lot.specs.Trade.{turned, trade_net, trade_worth, gain as gainOf, Fair};
 
 use crate::quarters::dot;
-use crate::views::Prices;
+use crate::views::CappedPrices;
+use std::array;
 
 // What a trade does with power. Whoever sells puts it in; whoever buys takes it out.
 #[derive(Clone, Copy)]
@@ -15,6 +15,8 @@ pub enum Direction {
 }
 
 impl Direction {
+    ghost use Rattle.lot.specs.Direction.{sells};
+
     // A number as it is where power is sold, with its sign turned where it is bought.
     fn turned(self, number: i32) -> i32
         requires { Within 19999998 number }
@@ -32,7 +34,7 @@ impl Direction {
         ensures { result ≡ (if nat_eq area home then turned (sells self) quantity else pos 0) }
     {
         if area == home {
-            self.turned(quantity) as i64
+            i64::from(self.turned(quantity))
         } else {
             0
         }
@@ -43,13 +45,7 @@ impl Direction {
         requires { AllWithin 99999 quantities.now }
         ensures { result ≡ four (λ t. turned (sells self) (at quantities.now t)) }
     {
-        let [a, b, c, d] = *quantities;
-        [
-            self.turned(a),
-            self.turned(b),
-            self.turned(c),
-            self.turned(d),
-        ]
+        quantities.map(|quantity| self.turned(quantity))
     }
 
     // What one unit gains at a price over its limit.
@@ -66,14 +62,7 @@ impl Direction {
         requires limits { AllWithin 9999999 limits.now }
         ensures { result ≡ four (λ t. turned (sells self) (at prices.now t -ℤ at limits.now t)) }
     {
-        let [a, b, c, d] = *prices;
-        let [w, x, y, z] = *limits;
-        [
-            self.gain(a, w),
-            self.gain(b, x),
-            self.gain(c, y),
-            self.gain(d, z),
-        ]
+        array::from_fn(|t| self.gain(prices[t], limits[t]))
     }
 }
 
@@ -83,33 +72,32 @@ pub struct TradeTerms {
     pub area: usize,
     pub direction: Direction,
     pub limits: [i32; 4],
+    pub ghost fair: { Fair area limits },
 }
 
 impl TradeTerms {
+    ghost use Rattle.lot.specs.Direction.{trade_of};
+
     // What quantities are worth, in grains.
     pub fn worth(&self, quantities: &[i32; 4]) -> i64
-        requires fair { Fair self.now }
-        requires small { AllWithin 99999 quantities.now }
+        requires { AllWithin 99999 quantities.now }
         ensures { result ≡ trade_worth (trade_of self.now) (at quantities.now) }
     {
         -dot(&self.direction.nets(quantities), &self.limits)
     }
 
     // What quantities come to at the prices, in grains.
-    pub fn amount(&self, quantities: &[i32; 4], prices: Prices<'_>) -> i64
-        requires fair { Fair self.now }
-        requires small { AllWithin 99999 quantities.now }
-        requires priced { Priced prices.bytes.now }
+    pub fn amount(&self, quantities: &[i32; 4], prices: CappedPrices<'_>) -> i64
+        requires { AllWithin 99999 quantities.now }
         ensures { result ≡ money (trade_net (trade_of self.now) (at quantities.now)) (table_of prices.entry.bytes.now) }
     {
         dot(&self.direction.nets(quantities), &prices.area(self.area))
     }
 
     // What one unit gains at the prices, by quarter.
-    pub fn gains(&self, prices: Prices<'_>) -> [i32; 4]
-        requires fair { Fair self.now }
-        requires priced { Priced prices.bytes.now }
-        ensures { result ≡ four (gainOf (trade_of self.now) (table_of prices.entry.bytes.now)) }
+    pub fn gains(&self, prices: CappedPrices<'_>) -> [i32; 4]
+        ensures same { result ≡ four (gainOf (trade_of self.now) (table_of prices.entry.bytes.now)) }
+        ensures within { AllWithin 19999998 result }
     {
         self.direction.gains(&prices.area(self.area), &self.limits)
     }

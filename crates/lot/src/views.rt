@@ -1,10 +1,17 @@
-ghost use Rattle.std.specs.Prelude.{◌≡◌, ℕ, ◌+◌, ◌*◌, ◌<◌, ◌≤◌, length, take, drop};
-ghost use Rattle.lot.specs.Page.{table_of, four};
+ghost use Rattle.std.specs.Prelude.{◌≡◌, ℕ, ◌+◌, ◌*◌, ◌<◌, ◌≤◌, true, ◌↔◌, length, take, drop, IsTrue, IsSome, IfSome};
+ghost use Rattle.lot.specs.Page.{table_of, four, Priced};
+ghost use Rattle.lot.specs.Sum.{every};
+ghost use Rattle.units.specs.Limit.{is_price};
 
 use byte_layer::number::read;
+use std::array;
+use units::limit::is_price;
 
 // The bytes of one row of a page: a command byte, and four numbers of 4 bytes.
 pub const ROW_BYTES: usize = 17;
+
+// The bytes of the prices of 32 areas.
+const PRICE_BYTES: usize = 544;
 
 // The number of a quarter in a row of 17 bytes.
 fn number_in(bytes: &[u8], row: usize, quarter: usize) -> i32
@@ -19,12 +26,7 @@ fn row_in(bytes: &[u8], row: usize) -> [i32; 4]
     requires { 17 * row + 17 ≤ length bytes.now }
     ensures { result ≡ four (table_of bytes.now row) }
 {
-    [
-        number_in(bytes, row, 0),
-        number_in(bytes, row, 1),
-        number_in(bytes, row, 2),
-        number_in(bytes, row, 3),
-    ]
+    array::from_fn(|quarter| number_in(bytes, row, quarter))
 }
 
 // The cells of a page, where they lie in its bytes: 17 bytes to a cell row.
@@ -90,5 +92,56 @@ impl<'a> Prices<'a> {
         ensures { result ≡ four (table_of self.entry.bytes.now area) }
     {
         row_in(self.bytes, area)
+    }
+
+    // Is each price of an area within the cap?
+    fn area_capped(self, area: usize) -> bool
+        requires { (area < 32) × (length self.bytes.now ≡ 544) }
+        ensures { result ≡ every 4 (λ t. is_price (table_of self.entry.bytes.now area t)) }
+    {
+        self.area(area).iter().all(|price| is_price(*price))
+    }
+
+    // The same prices, where they are those of the 32 areas, each within the cap.
+    pub fn capped(self) -> Option<CappedPrices<'a>>
+        ensures when { IsSome result ↔ Priced self.entry.bytes.now }
+        ensures same { IfSome result (λ p. p.bytes.now ≡ self.entry.bytes.now) }
+    {
+        if self.bytes.len() == PRICE_BYTES && (0..32).all(|area| self.area_capped(area)) {
+            Some(CappedPrices { bytes: self.bytes })
+        } else {
+            None
+        }
+    }
+}
+
+// The prices of the 32 areas, where they lie in a page's bytes, each within the cap.
+#[derive(Clone, Copy)]
+pub struct CappedPrices<'a> {
+    pub bytes: &'a [u8],
+    pub ghost priced: { Priced bytes.now },
+}
+
+impl<'a> CappedPrices<'a> {
+    pub fn price(self, area: usize, quarter: usize) -> i32
+        requires { (quarter < 4) × (area < 32) }
+        ensures { result ≡ table_of self.entry.bytes.now area quarter }
+    {
+        self.uncapped().price(area, quarter)
+    }
+
+    // The four prices of an area.
+    pub fn area(self, area: usize) -> [i32; 4]
+        requires { area < 32 }
+        ensures { result ≡ four (table_of self.entry.bytes.now area) }
+    {
+        self.uncapped().area(area)
+    }
+
+    // The same prices, whatever they are.
+    fn uncapped(self) -> Prices<'a>
+        ensures { result.bytes.now ≡ self.entry.bytes.now }
+    {
+        Prices { bytes: self.bytes }
     }
 }

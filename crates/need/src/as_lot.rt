@@ -2,7 +2,7 @@ ghost use Rattle.std.specs.Prelude.{◌≡◌, not, ◌&&◌, pos, ◌*ℤ◌, i
 ghost use Rattle.std.specs.Int.{int_max};
 ghost use Rattle.units.specs.Side.{is_upward};
 ghost use Rattle.lot.specs.Sum.{sum, every};
-ghost use Rattle.lot.specs.Direction.{towards, terms_of};
+ghost use Rattle.lot.specs.Direction.{towards, TermsOf};
 ghost use Rattle.lot.specs.Page.{at, four, Within, AllWithin};
 ghost use Rattle.lot.specs.Single.{single};
 ghost use Rattle.lot.specs.Laws.Joins.{settled_always};
@@ -15,7 +15,7 @@ use crate::lawful::Need;
 use lot::lot::Lot;
 use lot::quarters::{add_four, all_four, product};
 use lot::trade::{Direction, TradeTerms};
-use lot::views::{Cells, Prices};
+use lot::views::{CappedPrices, Cells};
 use units::limit::CAP;
 use units::side::Side;
 
@@ -128,7 +128,7 @@ impl Need {
 
     // The trade that the need asks for.
     fn terms(&self) -> TradeTerms
-        ensures { result ≡ terms_of (need_trade self.now.fields) }
+        ensures { TermsOf (need_trade self.now.fields) result }
     {
         TradeTerms {
             area: self.fields.area as usize,
@@ -176,15 +176,15 @@ impl Lot for Need {
         self.terms().worth(&cells.row(0))
     }
 
-    fn amount(&self, cells: Cells<'_>, prices: Prices<'_>, _row: usize) -> i64 {
+    fn amount(&self, cells: Cells<'_>, prices: CappedPrices<'_>, _row: usize) -> i64 {
         self.terms().amount(&cells.row(0), prices)
     }
 
-    fn best(&self, prices: Prices<'_>) -> i64 {
+    fn best(&self, prices: CappedPrices<'_>) -> i64 {
         most_earned_in(&self.maxima(), &self.terms().gains(prices))
     }
 
-    fn broken_row(&self, cells: Cells<'_>, prices: Prices<'_>) -> Option<usize> {
+    fn broken_row(&self, cells: Cells<'_>, prices: CappedPrices<'_>) -> Option<usize> {
         let kept = no_loss_in(&cells.row(0), &self.terms().gains(prices));
         if kept { None } else { Some(0) }
     }

@@ -1,12 +1,23 @@
-use Rattle.std.proofs.Common.{sym, ◌∙◌}
-use Rattle.asked.proofs.Pricing.{priced, ceils}
+use Rattle.std.proofs.Common.{true, false, sym, ap, ◌∙◌, w64, rules}
+use Rattle.std.proofs.lemmas.Int.{to_z-of_z}
+use Rattle.lot.specs.Page.{table_of}
+use Rattle.lot.proofs.Bundled.{duties_of}
+use Rattle.asked.specs.Asked.{may_ask}
+use Rattle.asked.proofs.Pricing.{price_test, unasked, asked, ceils}
 use Rattle.asked.proofs.ask.best.Goals as goal
 
-pub best-requires-clause-priced : goal.best-requires-clause-priced
-best-requires-clause-priced g c = priced c.args.prices.bytes.now (sym c.may_price.ensures ∙ c.if-may_price.true)
+pub returns-in_err-prices-clause-value : goal.returns-in_err-prices-clause-value
+returns-in_err-prices-clause-value g c =
+    c.from_residual.ensures
+    ∙ unasked _ (may_ask (g.L.Lot.meaning c.args.lot.now)) (price_test false c.args.prices.bytes.now c.in_err-prices.ensures.when)
 
-pub returns-then-may_price-clause-ceiling : goal.returns-then-may_price-clause-ceiling
-returns-then-may_price-clause-ceiling g c = let x = c.args.lot.now in ceils (g.L.Lot.meaning x) (λ h. record { idle = g.L.Lot.idle x; greatest = g.L.Lot.greatest x; settled = g.L.Lot.settled x; unharmed = g.L.Lot.unharmed x; limited = g.L.Lot.limited x })
+pub returns-in_err-prices-clause-ceiling : goal.returns-in_err-prices-clause-ceiling
+returns-in_err-prices-clause-ceiling g c = let x = c.args.lot.now in ceils (g.L.Lot.meaning x) (λ h. duties_of g.L.Lot x)
 
-pub returns-else-may_ask-clause-ceiling : goal.returns-else-may_ask-clause-ceiling
-returns-else-may_ask-clause-ceiling g c = let x = c.args.lot.now in ceils (g.L.Lot.meaning x) (λ h. record { idle = g.L.Lot.idle x; greatest = g.L.Lot.greatest x; settled = g.L.Lot.settled x; unharmed = g.L.Lot.unharmed x; limited = g.L.Lot.limited x })
+pub returns-then-may_ask-clause-value : goal.returns-then-may_ask-clause-value
+returns-then-may_ask-clause-value g c =
+    asked (sym c.if-may_ask.true ∙ c.may_ask.ensures) (price_test true c.args.prices.bytes.now c.in_ok-prices.ensures.when)
+    (to_z-of_z w64 c.best.result (search rules) ∙ c.best.ensures ∙ ap (λ q. (g.L.Lot.meaning c.args.lot.now).best (table_of q)) c.in_ok-prices.ensures.same)
+
+pub returns-then-may_ask-clause-ceiling : goal.returns-then-may_ask-clause-ceiling
+returns-then-may_ask-clause-ceiling g c = let x = c.args.lot.now in ceils (g.L.Lot.meaning x) (λ h. duties_of g.L.Lot x)

@@ -1,14 +1,16 @@
-use Rattle.std.proofs.Common.{w32, SFits, rules}
+use Rattle.std.proofs.Common.{◌≡◌, length, pos, ap, ◌∙◌, rules, tests}
+use Rattle.std.specs.List.{list_all}
+use Rattle.std.proofs.lemmas.Iterator.{YieldsList-from_slice}
+use Rattle.std.proofs.lemmas.Iterator.Search.{all_from_yields_List}
 use Rattle.units.specs.Limit.{is_zero}
 use Rattle.lot.specs.Page.{at}
-use Rattle.lot.proofs.Machine.{passed, every_is}
+use Rattle.lot.proofs.Chains.{quad_of, all_quad}
 use Rattle.lot.proofs.quarters.is_idle.Goals as goal
 
 pub returns : goal.returns
+unfolding is_zero
 returns c =
-    let q = at c.args.cells.now in
-    let f0 : SFits w32 (q 0) = search rules in
-    let f1 : SFits w32 (q 1) = search rules in
-    let f2 : SFits w32 (q 2) = search rules in
-    let f3 : SFits w32 (q 3) = search rules in
-    every_is (λ t. is_zero (q t)) c.all_four.ensures (passed is_zero f0 c.is_zero.ensures) (passed is_zero f1 c.is_zero-2.ensures) (passed is_zero f2 c.is_zero-3.ensures) (passed is_zero f3 c.is_zero-4.ensures)
+    let four : length c.args.cells.now ≡ 4 = cc in
+    all_from_yields_List is_zero _ _ _ c.all.ensures.ran (YieldsList-from_slice c.args.cells.now (cc)) (λ x b q k. search (rules, tests))
+    ∙ ap (list_all is_zero) (quad_of c.args.cells.now (pos 0) four)
+    ∙ all_quad is_zero (at c.args.cells.now)

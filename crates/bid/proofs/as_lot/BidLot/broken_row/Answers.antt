@@ -3,40 +3,37 @@ use Rattle.std.proofs.lemmas.Int.{ints}
 use Rattle.lot.specs.declared.trade.TradeTerms.{TradeTerms}
 use Rattle.lot.specs.Sum.{sum}
 use Rattle.lot.specs.Meaning.{money}
-use Rattle.lot.specs.Page.{table_of, four, at, Priced}
+use Rattle.lot.specs.Page.{table_of, four, at}
 use Rattle.lot.specs.Trade.{trade_net, trade_worth, gain}
-use Rattle.lot.specs.Direction.{trade_of, terms_of}
+use Rattle.lot.specs.Direction.{trade_of, TermsOf}
 use Rattle.lot.specs.Laws.Trades.{trade_surplus}
-use Rattle.lot.proofs.Terms.{fair, gains_small, earned}
+use Rattle.lot.proofs.Terms.{earned}
 use Rattle.lot.proofs.Alone.{alone_long, alone_within, keeps_then, keeps_else}
 use Rattle.bid.specs.declared.lawful.Bid.{Bid}
 use Rattle.bid.specs.Bidding.{bidding, bid_trade}
-use Rattle.bid.proofs.Trades.{inside, priced, cells_small}
+use Rattle.bid.proofs.Trades.{inside, cells_small}
 use Rattle.bid.proofs.as_lot.BidLot.broken_row.Goals as goal
 
 pub row-requires : goal.row-requires
 row-requires c = alone_long (bidding c.args.self.now.fields) c.args.cells.bytes.now c.requires.ready.sized
 
-pub gains-requires : goal.gains-requires
-gains-requires c = record { fair = fair (bid_trade c.args.self.now.fields) (inside c.args.self.now) (priced c.args.self.now) c.terms.result c.terms.ensures; priced = c.requires.priced }
-
 pub dot-surplus-requires : goal.dot-surplus-requires
 dot-surplus-requires c = record {
   quantities = alone_within (bidding c.args.self.now.fields) c.args.cells.bytes.now c.row.ensures (cells_small c.args.self.now c.args.cells.bytes.now c.requires.ready);
-  prices = gains_small (bid_trade c.args.self.now.fields) (inside c.args.self.now) (priced c.args.self.now) c.terms.result c.terms.ensures c.args.prices.bytes.now c.requires.priced c.gains.result c.gains.ensures;
+  prices = c.gains.ensures.within;
 }
 
-surplus_same : (b : Bid) (k p : List ℕ) → Priced p → (x : TradeTerms) → x ≡ terms_of (bid_trade b.fields) → (g : List ℤ) → g ≡ four (gain (trade_of x) (table_of p)) → (q : List ℤ) → q ≡ four (table_of k 0) → (r : ℤ) → r ≡ sum 4 (λ t. at q t *ℤ at g t)
+surplus_same : (b : Bid) (k p : List ℕ) (x : TradeTerms) → TermsOf (bid_trade b.fields) x → (g : List ℤ) → g ≡ four (gain (trade_of x) (table_of p)) → (q : List ℤ) → q ≡ four (table_of k 0) → (r : ℤ) → r ≡ sum 4 (λ t. at q t *ℤ at g t)
     → r ≡ trade_worth (bid_trade b.fields) (table_of k 0) +ℤ money (trade_net (bid_trade b.fields) (table_of k 0)) (table_of p)
-surplus_same b k p quoted x ex g eg q eq r e =
-    earned (bid_trade b.fields) (inside b) (priced b) x ex p quoted g eg (table_of k 0) q eq r e ∙ sym (trade_surplus (bid_trade b.fields) (inside b) (table_of k 0) (table_of p))
+surplus_same b k p x ex g eg q eq r e =
+    earned (bid_trade b.fields) x ex p g eg (table_of k 0) q eq r e ∙ sym (trade_surplus (bid_trade b.fields) (inside b) (table_of k 0) (table_of p))
 
 pub returns-then-surplus-ge0 : goal.returns-then-surplus-ge0
 returns-then-surplus-ge0 c =
     let h : pos 0 ≤ℤ c.dot-surplus.result = let t = c.if-surplus-ge0.true in omega (arith, ints) in
-    keeps_then h (surplus_same c.args.self.now c.args.cells.bytes.now c.args.prices.bytes.now c.requires.priced c.terms.result c.terms.ensures c.gains.result c.gains.ensures c.row.result c.row.ensures c.dot-surplus.result c.dot-surplus.ensures)
+    keeps_then h (surplus_same c.args.self.now c.args.cells.bytes.now c.args.prices.bytes.now c.terms.result c.terms.ensures c.gains.result c.gains.ensures.same c.row.result c.row.ensures c.dot-surplus.result c.dot-surplus.ensures)
 
 pub returns-else-surplus-ge0 : goal.returns-else-surplus-ge0
 returns-else-surplus-ge0 c =
     let h : c.dot-surplus.result <ℤ pos 0 = let t = c.if-surplus-ge0.false in omega (arith, ints) in
-    keeps_else h (surplus_same c.args.self.now c.args.cells.bytes.now c.args.prices.bytes.now c.requires.priced c.terms.result c.terms.ensures c.gains.result c.gains.ensures c.row.result c.row.ensures c.dot-surplus.result c.dot-surplus.ensures)
+    keeps_else h (surplus_same c.args.self.now c.args.cells.bytes.now c.args.prices.bytes.now c.terms.result c.terms.ensures c.gains.result c.gains.ensures.same c.row.result c.row.ensures c.dot-surplus.result c.dot-surplus.ensures)

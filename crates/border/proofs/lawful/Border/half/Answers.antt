@@ -4,5 +4,5 @@ use Rattle.border.proofs.lawful.Border.half.Goals as goal
 
 pub and-requires : goal.and-requires
 and-requires c =
-    let near = gap_near c.args.self.now c.args.prices.bytes.now c.requires.priced in
-    (near (_, []) (omega arith, tt) (omega arith) _ c.quarter-former.ensures, near (_, []) (c.requires.quarter, tt) (omega arith) _ c.quarter-latter.ensures)
+    let near = gap_near c.args.self.now c.args.prices.bytes.now c.args.prices.priced in
+    (near (_, []) (omega arith, tt) (omega arith) _ c.quarter-former.ensures, near (_, []) (c.requires, tt) (omega arith) _ c.quarter-latter.ensures)

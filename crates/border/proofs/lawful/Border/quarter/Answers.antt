@@ -2,13 +2,13 @@ use Rattle.border.proofs.Steps.{lawful_fields, gap_fits, quarter_is}
 use Rattle.border.proofs.lawful.Border.quarter.Goals as goal
 
 pub price-first-requires : goal.price-first-requires
-price-first-requires c = (c.requires.quarter, ((lawful_fields c.args.self.now).first, c.requires.priced.long))
+price-first-requires c = (c.requires, (lawful_fields c.args.self.now).first)
 
 pub price-second-requires : goal.price-second-requires
-price-second-requires c = (c.requires.quarter, ((lawful_fields c.args.self.now).second, c.requires.priced.long))
+price-second-requires c = (c.requires, (lawful_fields c.args.self.now).second)
 
 pub overflow_sub-result : goal.overflow_sub-result
-overflow_sub-result c = gap_fits c.args.self.now c.args.prices.bytes.now c.requires.priced c.args.quarter c.requires.quarter c.price-first.result c.price-second.result c.price-first.ensures c.price-second.ensures
+overflow_sub-result c = gap_fits c.args.self.now c.args.prices.bytes.now c.args.prices.priced c.args.quarter c.requires c.price-first.result c.price-second.result c.price-first.ensures c.price-second.ensures
 
 pub returns : goal.returns
-returns c = quarter_is c.args.self.now c.args.prices.bytes.now c.requires.priced c.args.quarter c.requires.quarter c.price-first.result c.price-second.result c.price-first.ensures c.price-second.ensures
+returns c = quarter_is c.args.self.now c.args.prices.bytes.now c.args.prices.priced c.args.quarter c.requires c.price-first.result c.price-second.result c.price-first.ensures c.price-second.ensures

@@ -6,11 +6,11 @@ use Rattle.lot.proofs.trade.TradeTerms.amount.Goals as goal
 
 pub dot-requires : goal.dot-requires
 dot-requires c = record {
-  quantities = nets_small c.args.self.now c.args.quantities.now c.nets.result c.nets.ensures c.requires.small;
-  prices = subst (AllWithin 19999998) (sym c.area.ensures) (all_more (prices_within c.args.prices.bytes.now c.requires.priced c.args.self.now.area c.requires.fair.inside) (lit≤ tt));
+  quantities = nets_small c.args.self.now c.args.quantities.now c.nets.result c.nets.ensures c.requires;
+  prices = subst (AllWithin 19999998) (sym c.area.ensures) (all_more (prices_within c.args.prices.bytes.now c.args.prices.priced c.args.self.now.area c.args.self.now.fair.inside) (lit≤ tt));
 }
 
 pub returns : goal.returns
 returns c =
     to_z-of_z w64 c.dot.result (search rules)
-    ∙ amount_same c.args.self.now c.args.quantities.now c.nets.result c.area.result c.args.prices.bytes.now c.nets.ensures c.area.ensures c.requires.fair c.dot.result c.dot.ensures
+    ∙ amount_same c.args.self.now c.args.quantities.now c.nets.result c.area.result c.args.prices.bytes.now c.nets.ensures c.area.ensures c.dot.result c.dot.ensures

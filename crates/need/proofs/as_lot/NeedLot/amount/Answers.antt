@@ -1,20 +1,20 @@
-use Rattle.std.proofs.Common.{◌∙◌, ap₂, w64, rules}
+use Rattle.std.proofs.Common.{◌∙◌, ap, w64, rules}
 use Rattle.std.proofs.lemmas.Int.{to_z-of_z}
 use Rattle.lot.specs.Meaning.{money}
 use Rattle.lot.specs.Page.{table_of}
 use Rattle.lot.specs.Trade.{trade_net}
 use Rattle.lot.specs.Direction.{trade_of}
-use Rattle.lot.proofs.Terms.{fair, terms_money}
+use Rattle.lot.proofs.Terms.{terms_money}
 use Rattle.lot.proofs.Alone.{alone_long, alone_within, row_is}
 use Rattle.need.specs.Needing.{needing, need_trade}
-use Rattle.need.proofs.Trades.{inside, priced, cells_small}
+use Rattle.need.proofs.Trades.{cells_small}
 use Rattle.need.proofs.as_lot.NeedLot.amount.Goals as goal
 
 pub row-requires : goal.row-requires
 row-requires c = alone_long (needing c.args.self.now.fields) c.args.cells.bytes.now c.requires.ready.sized
 
 pub amount-requires : goal.amount-requires
-amount-requires c = record { fair = fair (need_trade c.args.self.now.fields) (inside c.args.self.now) (priced c.args.self.now) c.terms.result c.terms.ensures; small = alone_within (needing c.args.self.now.fields) c.args.cells.bytes.now c.row.ensures (cells_small c.args.self.now c.args.cells.bytes.now c.requires.ready); priced = c.requires.priced }
+amount-requires c = alone_within (needing c.args.self.now.fields) c.args.cells.bytes.now c.row.ensures (cells_small c.args.self.now c.args.cells.bytes.now c.requires.ready)
 
 pub returns : goal.returns
 returns c =
@@ -23,5 +23,5 @@ returns c =
     let p = table_of c.args.prices.bytes.now in
     to_z-of_z w64 c.amount.result (search rules)
     ∙ c.amount.ensures
-    ∙ ap₂ (λ x q. money (trade_net (trade_of x) q) p) c.terms.ensures (row_is (needing b.fields) k c.row.result c.row.ensures)
-    ∙ terms_money (need_trade b.fields) (table_of k 0) p
+    ∙ ap (λ q. money (trade_net (trade_of c.terms.result) q) p) (row_is (needing b.fields) k c.row.result c.row.ensures)
+    ∙ terms_money (need_trade b.fields) c.terms.result c.terms.ensures (table_of k 0) p

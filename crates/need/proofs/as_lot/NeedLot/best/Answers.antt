@@ -4,23 +4,19 @@ use Rattle.std.proofs.lemmas.Int.{to_z-of_z}
 use Rattle.lot.specs.Page.{table_of, at}
 use Rattle.lot.specs.Trade.{gain}
 use Rattle.lot.specs.Laws.Sums.{sum_same}
-use Rattle.lot.proofs.Terms.{fair, gains_are, gains_small, four_at}
+use Rattle.lot.proofs.Terms.{gains_are, four_at}
 use Rattle.need.specs.Needing.{need_trade, wanted}
-use Rattle.need.proofs.Trades.{inside, priced}
 use Rattle.need.proofs.as_lot.NeedLot.best.Goals as goal
 
-pub gains-requires : goal.gains-requires
-gains-requires c = record { fair = fair (need_trade c.args.self.now.fields) (inside c.args.self.now) (priced c.args.self.now) c.terms.result c.terms.ensures; priced = c.requires.priced }
-
 pub most_earned_in-requires : goal.most_earned_in-requires
-most_earned_in-requires c = record { maxima = c.maxima.ensures.small; gains = gains_small (need_trade c.args.self.now.fields) (inside c.args.self.now) (priced c.args.self.now) c.terms.result c.terms.ensures c.args.prices.bytes.now c.requires.priced c.gains.result c.gains.ensures }
+most_earned_in-requires c = record { maxima = c.maxima.ensures.small; gains = c.gains.ensures.within }
 
 pub returns : goal.returns
 returns c =
     let b = c.args.self.now in
     let f = wanted b.fields in
     let g = gain (need_trade b.fields) (table_of c.args.prices.bytes.now) in
-    let eg = gains_are (need_trade b.fields) (inside b) (priced b) c.terms.result c.terms.ensures c.args.prices.bytes.now c.requires.priced c.gains.result c.gains.ensures in
+    let eg = gains_are (need_trade b.fields) c.terms.result c.terms.ensures c.args.prices.bytes.now c.gains.result c.gains.ensures.same in
     to_z-of_z w64 c.most_earned_in.result (search rules)
     ∙ c.most_earned_in.ensures
     ∙ sum_same 4 (λ t. int_max (pos 0) (at c.maxima.result t *ℤ at c.gains.result t)) (λ t. int_max (pos 0) (f t *ℤ g t))

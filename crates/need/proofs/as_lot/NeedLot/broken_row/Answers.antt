@@ -1,24 +1,21 @@
 use Rattle.std.proofs.Common.{true, false}
-use Rattle.lot.proofs.Terms.{fair, gains_are}
+use Rattle.lot.proofs.Terms.{gains_are}
 use Rattle.lot.proofs.Alone.{alone_long}
 use Rattle.need.specs.Needing.{need_trade, needing}
-use Rattle.need.proofs.Trades.{inside, priced, rule_is, named_by}
+use Rattle.need.proofs.Trades.{rule_is, named_by}
 use Rattle.need.proofs.as_lot.NeedLot.broken_row.Goals as goal
 
 pub row-requires : goal.row-requires
 row-requires c = alone_long (needing c.args.self.now.fields) c.args.cells.bytes.now c.requires.ready.sized
 
-pub gains-requires : goal.gains-requires
-gains-requires c = record { fair = fair (need_trade c.args.self.now.fields) (inside c.args.self.now) (priced c.args.self.now) c.terms.result c.terms.ensures; priced = c.requires.priced }
-
 pub returns-then-kept : goal.returns-then-kept
 returns-then-kept c =
     let b = c.args.self.now in
     let p = c.args.prices.bytes.now in
-    named_by {v = true} (rule_is b c.args.cells.bytes.now p c.row.result c.gains.result c.row.ensures (gains_are (need_trade b.fields) (inside b) (priced b) c.terms.result c.terms.ensures p c.requires.priced c.gains.result c.gains.ensures) c.no_loss_in-kept.ensures) c.if-kept.true
+    named_by {v = true} (rule_is b c.args.cells.bytes.now p c.row.result c.gains.result c.row.ensures (gains_are (need_trade b.fields) c.terms.result c.terms.ensures p c.gains.result c.gains.ensures.same) c.no_loss_in-kept.ensures) c.if-kept.true
 
 pub returns-else-kept : goal.returns-else-kept
 returns-else-kept c =
     let b = c.args.self.now in
     let p = c.args.prices.bytes.now in
-    named_by {v = false} (rule_is b c.args.cells.bytes.now p c.row.result c.gains.result c.row.ensures (gains_are (need_trade b.fields) (inside b) (priced b) c.terms.result c.terms.ensures p c.requires.priced c.gains.result c.gains.ensures) c.no_loss_in-kept.ensures) c.if-kept.false
+    named_by {v = false} (rule_is b c.args.cells.bytes.now p c.row.result c.gains.result c.row.ensures (gains_are (need_trade b.fields) c.terms.result c.terms.ensures p c.gains.result c.gains.ensures.same) c.no_loss_in-kept.ensures) c.if-kept.false
