@@ -4,9 +4,6 @@ use Rattle.joined.proofs.Halves.{asks, first_ready, breaks}
 use Rattle.joined.proofs.Walks.{passing_none, passing_below, passing_here, passing_next, passing_end}
 use Rattle.joined.proofs.chained.ChainedLot.broken_row.Goals as goal
 
-pub walk-init : goal.walk-init
-walk-init g c = passing_none (breaks _ (priced_quoted _ c.requires.priced)) c.requires.ready
-
 pub front_part-requires : goal.front_part-requires
 front_part-requires g c = asks c.in-Some.ensures.step c.walk.invariant.asked.sized
 
@@ -27,6 +24,3 @@ rest_part-rest-requires g c = asks c.in-Some.ensures.step c.walk.invariant.asked
 
 pub walk-preserved : goal.walk-preserved
 walk-preserved g c = passing_next (breaks _ (priced_quoted _ c.requires.priced)) c.in-Some.ensures.step c.walk.invariant c.front_part.ensures _ c.broken_row.ensures c.in_default-broken_row.is c.rest_part-rest.ensures _ c.row_count-passed.ensures
-
-pub returns : goal.returns
-returns g c = passing_end (breaks _ (priced_quoted _ c.requires.priced)) c.walk.invariant (g.C.Chain.ends _ (omega arith))

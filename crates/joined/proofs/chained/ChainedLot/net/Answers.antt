@@ -4,9 +4,6 @@ use Rattle.joined.proofs.Halves.{asks, first_ready}
 use Rattle.joined.proofs.Walks.{netting_none, netting_next, netting_within, netting_end}
 use Rattle.joined.proofs.chained.ChainedLot.net.Goals as goal
 
-pub walk-init : goal.walk-init
-walk-init g c = netting_none c.requires.ready
-
 pub front_part-front-requires : goal.front_part-front-requires
 front_part-front-requires g c = asks c.in-Some.ensures.step c.walk.invariant.ready.sized
 

@@ -3,9 +3,6 @@ use Rattle.joined.proofs.Halves.{asks, first_sized, refusals}
 use Rattle.joined.proofs.Walks.{passing_none, passing_below, passing_here, passing_next, passing_end}
 use Rattle.joined.proofs.chained.ChainedLot.refused_row.Goals as goal
 
-pub walk-init : goal.walk-init
-walk-init g c = passing_none refusals c.requires
-
 pub front_part-requires : goal.front_part-requires
 front_part-requires g c = asks c.in-Some.ensures.step c.walk.invariant.asked
 
@@ -26,6 +23,3 @@ rest_part-rest-requires g c = asks c.in-Some.ensures.step c.walk.invariant.asked
 
 pub walk-preserved : goal.walk-preserved
 walk-preserved g c = passing_next refusals c.in-Some.ensures.step c.walk.invariant c.front_part.ensures _ c.refused_row.ensures c.in_default-refused_row.is c.rest_part-rest.ensures _ c.row_count-passed.ensures
-
-pub returns : goal.returns
-returns g c = passing_end refusals c.walk.invariant (g.C.Chain.ends _ (omega arith))
