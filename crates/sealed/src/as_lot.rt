@@ -1,6 +1,6 @@
 ghost use Rattle.std.specs.Prelude.{◌≡◌};
 ghost use Rattle.book.specs.Reading.{rows_in};
-ghost use Rattle.sealed.specs.Ahead.{ahead};
+ghost use Rattle.sealed.specs.Left.{rows_left};
 ghost use Rattle.sealed.specs.Lot.{book_meaning};
 ghost use Rattle.sealed.specs.Laws.Books.{book_duties, orders_end};
 
@@ -15,29 +15,29 @@ use order::order::Order;
 impl<'a> Chain for Orders<'a> {
     type Link = Order;
 
-    ghost meaning = { λ x. book_meaning (ahead x.rows.stand x.rows.rest.now) };
+    ghost meaning = { λ x. book_meaning (rows_left x.rows) };
 
     ghost left = { λ x. x.rows.left };
 
-    ghost ends = { λ x. orders_end (ahead x.rows.stand x.rows.rest.now) x.rows.left x.rows.count };
+    ghost ends = { λ x. orders_end (rows_left x.rows) x.rows.left x.rows.count };
 
-    ghost duties = { λ x. book_duties (ahead x.rows.stand x.rows.rest.now) x.rows.lawful };
+    ghost duties = { λ x. book_duties (rows_left x.rows) x.rows.lawful };
 
     fn left(&self) -> usize {
         self.rows.left
     }
 
-    fn split(self) -> (Order, Orders<'a>) {
-        self.next_order()
+    fn split(self) -> Option<(Order, Orders<'a>)> {
+        self.split_first()
     }
 }
 
 impl<'a> SealedBook<'a> {
     // The orders of the book, one after another.
     fn orders(self) -> Chained<Orders<'a>>
-        ensures { ahead result.0.rows.stand result.0.rows.rest.now ≡ rows_in self.entry.text.now }
+        ensures { rows_left result.0.rows ≡ rows_in self.entry.text.now }
     {
-        Chained(Orders { rows: self.all() })
+        Chained(Orders { rows: self.iter() })
     }
 }
 

@@ -1,8 +1,8 @@
-ghost use Rattle.std.specs.Prelude.{◌≡◌, ◌+◌, ◌<◌, true, false, List, ◌∷◌};
+ghost use Rattle.std.specs.Prelude.{◌≡◌, ◌+◌, ◌<◌, true, false, List, ◌∷◌, MatchOption};
 ghost use Rattle.lot.specs.Join.{Parted};
 ghost use Rattle.book.specs.declared.row.Row.{Row as RowOf};
 ghost use Rattle.order.specs.Order.{order_meaning};
-ghost use Rattle.sealed.specs.Ahead.{ahead};
+ghost use Rattle.sealed.specs.Left.{rows_left};
 ghost use Rattle.sealed.specs.Lot.{is_group, book_meaning, lawful_row};
 
 use crate::orders::Orders;
@@ -36,17 +36,15 @@ fn single_order(row: Row) -> Order
 }
 
 impl<'a> Orders<'a> {
-    // The next order, and the orders after it.
-    pub(crate) fn next_order(self) -> (Order, Orders<'a>)
-        requires { 0 < self.rows.left }
-        ensures less { result.1.rows.left < self.entry.rows.left }
-        ensures step { Parted (book_meaning (ahead self.entry.rows.stand self.entry.rows.rest.now)) (order_meaning result.0) (book_meaning (ahead result.1.rows.stand result.1.rows.rest.now)) }
+    // The first order, and the orders after it; none where no row is left.
+    pub(crate) fn split_first(self) -> Option<(Order, Orders<'a>)>
+        ensures { MatchOption result (self.entry.rows.left ≡ 0) (λ p. record { less : p.1.rows.left < self.entry.rows.left; step : Parted (book_meaning (rows_left self.entry.rows)) (order_meaning p.0) (book_meaning (rows_left p.1.rows)) }) }
     {
-        let (row, after) = self.rows.next();
+        let (row, after) = self.rows.split_first()?;
         if let Row::Group(size) = row {
-            let (group, rest) = after.group(size as usize);
-            return (Order::Group(group), Orders { rows: rest });
+            let (group, rest) = after.group(usize::from(size));
+            return Some((Order::Group(group), Orders { rows: rest }));
         }
-        (single_order(row), Orders { rows: after })
+        Some((single_order(row), Orders { rows: after }))
     }
 }

@@ -17,16 +17,16 @@ impl<'a> Rows<'a> {
         ensures ahead { ahead self.entry.stand self.entry.rest.now ≡ kind.Bid result.0.fields ∷ ahead result.1.stand result.1.rest.now }
         ensures stands { MemberOn self.entry.stand result.0.fields.area result.1.stand }
     {
-        let (row, after) = self.next();
-        match row {
-            Row::Bid(fields) => match Bid::of(fields) {
-                Ok(bid) => (bid, after),
-                Err(_fault) => unreachable(),
-            },
-            Row::Group(_) => unreachable(),
-            Row::Need(_) => unreachable(),
-            Row::Border(_) => unreachable(),
-        }
+        let Some((row, after)) = self.split_first() else {
+            unreachable()
+        };
+        let Row::Bid(fields) = row else {
+            unreachable()
+        };
+        let Ok(bid) = Bid::of(fields) else {
+            unreachable()
+        };
+        (bid, after)
     }
 
     // The members of the group underway, at the front of an array, and the rows after them.
@@ -55,9 +55,9 @@ impl<'a> Rows<'a> {
         ensures whole { result.1.stand.due ≡ 0 }
     {
         let (all, rows) = self.members(size);
-        match ExclusiveGroup::of(&all[0..size]) {
-            Some(group) => (group, rows),
-            None => unreachable(),
-        }
+        let Some(group) = ExclusiveGroup::of(&all[..size]) else {
+            unreachable()
+        };
+        (group, rows)
     }
 }
