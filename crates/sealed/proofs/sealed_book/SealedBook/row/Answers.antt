@@ -17,4 +17,4 @@ returns-then-i-self c =
 pub returns : goal.returns
 returns c =
     let rs = rows_in c.args.self.now.text.now in
-    sym (option_map_id c.nth.result) ∙ nth_from_yields_List c.nth.result _ c.args.i c.nth.ensures.ran (YieldsList-from_first (λ r. r) rows_left rs c.iter.ensures.rows)
+    sym (option_map_id c.nth.result) ∙ nth_from_yields_List c.nth.result c.nth.new.self c.args.i c.nth.ensures.ran (YieldsList-from_first (λ r. r) rows_left rs c.iter.ensures.rows)
