@@ -2,35 +2,13 @@ ghost use Rattle.std.specs.Prelude.{◌≡◌};
 ghost use Rattle.book.specs.Reading.{rows_in};
 ghost use Rattle.sealed.specs.Left.{rows_left};
 ghost use Rattle.sealed.specs.Lot.{book_meaning};
-ghost use Rattle.sealed.specs.Laws.Books.{book_duties, orders_end};
+ghost use Rattle.sealed.specs.Laws.Books.{book_duties};
 
 use crate::orders::Orders;
 use crate::sealed_book::SealedBook;
-use joined::chain::Chain;
 use joined::chained::Chained;
 use lot::lot::Lot;
 use lot::views::{Cells, Prices};
-use order::order::Order;
-
-impl<'a> Chain for Orders<'a> {
-    type Link = Order;
-
-    ghost meaning = { λ x. book_meaning (rows_left x.rows) };
-
-    ghost left = { λ x. x.rows.left };
-
-    ghost ends = { λ x. orders_end (rows_left x.rows) x.rows.left x.rows.count };
-
-    ghost duties = { λ x. book_duties (rows_left x.rows) x.rows.lawful };
-
-    fn left(&self) -> usize {
-        self.rows.left
-    }
-
-    fn split(self) -> Option<(Order, Orders<'a>)> {
-        self.split_first()
-    }
-}
 
 impl<'a> SealedBook<'a> {
     // The orders of the book, one after another.

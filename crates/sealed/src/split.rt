@@ -1,14 +1,16 @@
-ghost use Rattle.std.specs.Prelude.{◌≡◌, ◌+◌, ◌<◌, true, false, List, ◌∷◌, MatchOption};
+ghost use Rattle.std.specs.Prelude.{◌≡◌, ◌+◌, ◌<◌, true, false, List, ◌∷◌};
 ghost use Rattle.lot.specs.Join.{Parted};
 ghost use Rattle.book.specs.declared.row.Row.{Row as RowOf};
 ghost use Rattle.order.specs.Order.{order_meaning};
 ghost use Rattle.sealed.specs.Left.{rows_left};
 ghost use Rattle.sealed.specs.Lot.{is_group, book_meaning, lawful_row};
+ghost use Rattle.sealed.specs.Laws.Books.{book_duties, orders_end};
 
 use crate::orders::Orders;
 use bid::lawful::Bid;
 use book::row::Row;
 use border::lawful::Border;
+use joined::chain::Chain;
 use need::lawful::Need;
 use order::order::Order;
 
@@ -35,11 +37,22 @@ fn single_order(row: Row) -> Order
     }
 }
 
-impl<'a> Orders<'a> {
-    // The first order, and the orders after it; none where no row is left.
-    pub(crate) fn split_first(self) -> Option<(Order, Orders<'a>)>
-        ensures { MatchOption result (self.entry.rows.left ≡ 0) (λ p. record { less : p.1.rows.left < self.entry.rows.left; step : Parted (book_meaning (rows_left self.entry.rows)) (order_meaning p.0) (book_meaning (rows_left p.1.rows)) }) }
-    {
+impl<'a> Chain for Orders<'a> {
+    type Link = Order;
+
+    ghost meaning = { λ x. book_meaning (rows_left x.rows) };
+
+    ghost left = { λ x. x.rows.left };
+
+    ghost ends = { λ x. orders_end (rows_left x.rows) x.rows.left x.rows.count };
+
+    ghost duties = { λ x. book_duties (rows_left x.rows) x.rows.lawful };
+
+    fn left(&self) -> usize {
+        self.rows.left
+    }
+
+    fn split(self) -> Option<(Order, Orders<'a>)> {
         let (row, after) = self.rows.split_first()?;
         if let Row::Group(size) = row {
             let (group, rest) = after.group(usize::from(size));

@@ -11,7 +11,7 @@ use Rattle.sealed.specs.Lot.{book_meaning, lawful_row, lawful_rows}
 use Rattle.sealed.specs.Members.{bid_rows, Begun}
 use Rattle.sealed.proofs.Turns.{lawful_first}
 use Rattle.sealed.proofs.Splitting.{stays_whole, begins_group, first_group, not_group, fewer}
-use Rattle.sealed.proofs.orders.Orders.split_first.Goals as goal
+use Rattle.sealed.proofs.split.OrdersChain.split.Goals as goal
 
 pub returns-in_err-row : goal.returns-in_err-row
 returns-in_err-row c = let x = c.args.self.rows in rw c.from_residual.ensures (sym x.count ∙ ap length c.in_err-row.ensures)
