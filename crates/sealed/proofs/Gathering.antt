@@ -9,7 +9,6 @@ use Rattle.bid.specs.Group.{same_area}
 use Rattle.book.specs.declared.row.Row.{Row}
 use Rattle.book.specs.declared.row.Row.TheVariants as kind
 use Rattle.book.specs.declared.stand.Stand.{Stand}
-use Rattle.book.specs.Stands.{member_on}
 use Rattle.group.specs.Group.{in_area, one_area}
 use Rattle.sealed.specs.Ahead.{ahead}
 use Rattle.sealed.specs.Members.{bid_rows, MemberOn, Begun, Gathered}

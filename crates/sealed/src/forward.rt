@@ -70,4 +70,26 @@ impl<'a> Iterator for Rows<'a> {
         *self = after;
         Some(row)
     }
+
+    fn size_hint(&self) -> (usize, Option<usize>) {
+        (self.left, Some(self.left))
+    }
+}
+
+impl<'a> ExactSizeIterator for Rows<'a> {
+    fn len(&self) -> usize {
+        self.left
+    }
+}
+
+impl<'a> IntoIterator for SealedBook<'a> {
+    type Item = Row;
+
+    type IntoIter = Rows<'a>;
+
+    ghost into_iter_gives = { λ book rows. rows_left rows ≡ rows_in book.text.now };
+
+    fn into_iter(self) -> Rows<'a> {
+        self.iter()
+    }
 }

@@ -20,21 +20,14 @@ fn single_order(row: Row) -> Order
     requires single { is_group row ≡ false }
     ensures { (rs : List RowOf) → Parted (book_meaning (row ∷ rs)) (order_meaning result) (book_meaning rs) }
 {
-    match row {
-        Row::Bid(fields) => match Bid::of(fields) {
-            Ok(bid) => Order::Bid(bid),
-            Err(_fault) => unreachable(),
-        },
-        Row::Need(fields) => match Need::of(fields) {
-            Ok(need) => Order::Need(need),
-            Err(_fault) => unreachable(),
-        },
-        Row::Border(fields) => match Border::of(fields) {
-            Ok(border) => Order::Border(border),
-            Err(_fault) => unreachable(),
-        },
+    let made = match row {
+        Row::Bid(fields) => Bid::of(fields).map(Order::Bid),
+        Row::Need(fields) => Need::of(fields).map(Order::Need),
+        Row::Border(fields) => Border::of(fields).map(Order::Border),
         Row::Group(_) => unreachable(),
-    }
+    };
+    let Ok(order) = made else { unreachable() };
+    order
 }
 
 impl<'a> Chain for Orders<'a> {

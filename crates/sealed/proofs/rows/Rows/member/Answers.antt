@@ -1,7 +1,6 @@
 use Rattle.std.proofs.Common.{◌≡◌, true, ◌∷◌, Some, Ok, length, sym, ap, ◌∙◌, subst, arith}
 use Rattle.units.specs.Limit.{is_area}
 use Rattle.units.proofs.Judged.{judged_ok}
-use Rattle.bid.specs.declared.fields.BidFields.{BidFields}
 use Rattle.bid.specs.Fields.{bid_fine}
 use Rattle.book.specs.declared.row.Row.{Row}
 use Rattle.book.specs.declared.row.Row.TheVariants as kind

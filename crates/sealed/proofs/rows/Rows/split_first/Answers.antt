@@ -1,4 +1,4 @@
-use Rattle.std.proofs.Common.{◌≡◌, false, not, ◌&&◌, ltb, ◌∷◌, Some, None, Ok, sym, ap, ◌∙◌, subst, ap₂}
+use Rattle.std.proofs.Common.{◌≡◌, false, not, ◌&&◌, ltb, ◌∷◌, Some, Ok, sym, ap, ◌∙◌, subst, ap₂}
 use Rattle.book.specs.declared.command.Command.{Command}
 use Rattle.book.specs.Command.{is_bid}
 use Rattle.book.specs.Fault.{told_book}

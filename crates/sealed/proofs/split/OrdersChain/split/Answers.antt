@@ -8,7 +8,7 @@ use Rattle.book.specs.declared.row.Row.TheVariants as kind
 use Rattle.book.specs.Stands.{after}
 use Rattle.sealed.specs.Left.{rows_left}
 use Rattle.sealed.specs.Lot.{book_meaning, lawful_row, lawful_rows}
-use Rattle.sealed.specs.Members.{bid_rows, Begun}
+use Rattle.sealed.specs.Members.{bid_rows}
 use Rattle.sealed.proofs.Turns.{lawful_first}
 use Rattle.sealed.proofs.Splitting.{stays_whole, begins_group, first_group, not_group, fewer}
 use Rattle.sealed.proofs.split.OrdersChain.split.Goals as goal
