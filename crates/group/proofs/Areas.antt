@@ -1,24 +1,37 @@
 -- Bids of one area, and groups of them.
-use Rattle.std.proofs.Common.{◌≡◌, ℕ, suc, ◌+◌, ◌<◌, ◌≤◌, true, false, ◌&&◌, List, [], ◌∷◌, length, get_or, drop, sym, refl, ap, ◌∙◌, add-one, arith, drop-cons}
-use Rattle.std.proofs.lemmas.Bool.{eq-eqb, ne_eqb}
-use Rattle.std.proofs.lemmas.List.{drop_all}
+use Rattle.std.proofs.Common.{Bool, Ok, Err, Result, Some, None, ◌==◌, ◌≡◌, ℕ, ◌<◌, true, false, ◌&&◌, List, [], ◌∷◌, length, get_or, sym, refl, ap, ◌∙◌, arith}
+use Rattle.std.proofs.lemmas.Bool.{eq-eqb}
+use Rattle.std.specs.List.{list_all}
 use Rattle.bid.specs.declared.lawful.Bid.{Bid}
+use Rattle.byte_layer.specs.declared.fault.Told.{Told}
+use Rattle.byte_layer.specs.Fault.{heard}
+use Rattle.std.specs.Result.{result_ok}
+use Rattle.units.specs.declared.field.FieldFault.{FieldFault}
+use Rattle.units.specs.Field.{told_field, judged}
+use Rattle.units.proofs.Judged.{judged_ok, no_err, no_some}
+use Rattle.bid.specs.declared.size.GroupSize.{GroupSize}
+use Rattle.bid.specs.Lawful.{members_in}
+use Rattle.bid.specs.Group.{group_fine}
 use Rattle.group.specs.Group.{in_area, one_area}
 
--- the bids from a place on
-pub from_here : (bs : List Bid) (i : ℕ) (b : Bid) → i < length bs → b ≡ get_or bs i b → drop i bs ≡ b ∷ drop (i + 1) bs
-from_here bs i b h e = drop-cons bs i b h ∙ ap (λ x. x ∷ drop (suc i) bs) (sym e) ∙ ap (λ n. b ∷ drop n bs) (sym (add-one i))
-
-pub in_next : (area : ℕ) (bs : List Bid) (i : ℕ) (b : Bid) → i < length bs → b ≡ get_or bs i b → b.fields.area ≡ area → in_area area (drop i bs) ≡ in_area area bs → in_area area (drop (i + 1) bs) ≡ in_area area bs
-in_next area bs i b h e same inv = sym (ap (in_area area) (from_here bs i b h e) ∙ ap (λ v. v && in_area area (drop (i + 1) bs)) (eq-eqb b.fields.area area same)) ∙ inv
-
-pub in_not : (area : ℕ) (bs : List Bid) (i : ℕ) (b : Bid) → i < length bs → b ≡ get_or bs i b → (b.fields.area ≡ area → ⊥) → in_area area (drop i bs) ≡ in_area area bs → false ≡ in_area area bs
-in_not area bs i b h e other inv = sym (ap (in_area area) (from_here bs i b h e) ∙ ap (λ v. v && in_area area (drop (i + 1) bs)) (ne_eqb b.fields.area area other)) ∙ inv
-
-pub in_all : (area : ℕ) (bs : List Bid) (i : ℕ) → length bs ≤ i → in_area area (drop i bs) ≡ in_area area bs → true ≡ in_area area bs
-in_all area bs i h inv = sym (ap (in_area area) (drop_all i bs h)) ∙ inv
+pub in_area_is : (area : ℕ) (bs : List Bid) → list_all (λ b. b.fields.area == area) bs ≡ in_area area bs
+in_area_is area [] = refl
+in_area_is area (b ∷ bs) = ap (λ v. b.fields.area == area && v) (in_area_is area bs)
 
 -- the first is of its own area
 pub one_area_is : (bs : List Bid) (b : Bid) → 0 < length bs → b ≡ get_or bs 0 b → in_area b.fields.area bs ≡ one_area bs
 one_area_is [] b h e = absurd (omega arith)
 one_area_is (x ∷ bs) b h e = ap (λ y. in_area y.fields.area (x ∷ bs)) e ∙ ap (λ v. v && in_area x.fields.area bs) (eq-eqb x.fields.area x.fields.area refl)
+
+-- the size that a number of members makes, or that it makes none
+pub size_made : (r : Result GroupSize FieldFault) (n : ℕ) → heard (told_field 0) (members_in r) ≡ judged 0 true (group_fine n) n → (s : GroupSize) → result_ok r ≡ Some s → s.members ≡ n
+size_made (Ok g) n e s is = let same : g ≡ s = cc in ap (λ x. x.members) (sym same) ∙ sym (judged_ok 0 true (group_fine n) n g.members (sym e)).same
+size_made (Err f) n e s is = no_some s is
+
+pub none_made : (r : Result GroupSize FieldFault) (n : ℕ) → heard (told_field 0) (members_in r) ≡ judged 0 true (group_fine n) n → result_ok r ≡ None → group_fine n ≡ false
+none_made (Ok g) n e is = no_some g (sym is)
+none_made (Err f) n e is = not_fine (group_fine n) n (told_field 0 f) e
+  where
+    not_fine : (b : Bool) (n : ℕ) (t : Told) → Err t ≡ judged 0 true b n → b ≡ false
+    not_fine true n t h = no_err t n h
+    not_fine false n t h = refl

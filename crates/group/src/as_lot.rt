@@ -14,23 +14,12 @@ use lot::lot::Lot;
 use lot::quarters::is_idle;
 use lot::views::{Cells, Prices};
 
-// A row that is not idle counts as one.
-fn counted(idle: bool) -> usize
-    ensures { result ≡ (if not idle then 1 else 0) }
-{
-    if idle { 0 } else { 1 }
-}
-
 // Is at most one of the first cell rows not all zero?
 fn at_most_one(cells: Cells<'_>, rows: usize) -> bool
     requires { 17 * rows ≤ length cells.bytes.now }
     ensures { result ≡ at_most_one rows (table_of cells.entry.bytes.now) }
 {
-    let mut taken: usize = 0;
-    for k in 0..rows {
-        taken += counted(is_idle(&cells.row(k)));
-    }
-    taken <= 1
+    (0..rows).filter(|&k| !is_idle(&cells.row(k))).count() <= 1
 }
 
 // The largest best of the bids, or 0.
@@ -38,11 +27,9 @@ fn largest_best(bids: &[Bid], prices: Prices<'_>) -> i64
     requires { Priced prices.bytes.now }
     ensures { result ≡ largest (map member_of bids.now) (table_of prices.entry.bytes.now) }
 {
-    let mut top = 0;
-    for bid in bids {
-        top = bid.best(prices).max(top);
-    }
-    top
+    bids.iter()
+        .map(|bid| bid.best(prices))
+        .fold(0, |top, best| best.max(top))
 }
 
 impl ExclusiveGroup {
@@ -82,13 +69,9 @@ impl Lot for ExclusiveGroup {
 
     // The members are tried in order, and then the group's own rule, at its row.
     fn refused_row(&self, cells: Cells<'_>) -> Option<usize> {
-        if let Some(row) = self.rows().refused_row(cells) {
-            return Some(row);
-        }
-        if at_most_one(cells, self.members().len()) {
-            None
-        } else {
-            Some(0)
+        match self.rows().refused_row(cells) {
+            None if !at_most_one(cells, self.members().len()) => Some(0),
+            named => named,
         }
     }
 

@@ -2,7 +2,6 @@ ghost use Rattle.std.specs.Prelude.{◌≡◌, ℕ, ◌≤◌, true, false, leng
 ghost use Rattle.group.specs.Group.{in_area, one_area, may_group};
 
 use crate::group::ExclusiveGroup;
-use bid::group::MOST_MEMBERS;
 use bid::lawful::Bid;
 use bid::size::GroupSize;
 
@@ -10,12 +9,7 @@ use bid::size::GroupSize;
 fn in_area(area: u8, bids: &[Bid]) -> bool
     ensures { result ≡ in_area area bids.now }
 {
-    for bid in bids {
-        if bid.fields().area != area {
-            return false;
-        }
-    }
-    true
+    bids.iter().all(|bid| bid.fields().area == area)
 }
 
 // The bids at the front of an array.
@@ -24,9 +18,7 @@ fn copied(bids: &[Bid]) -> [Bid; 8]
     ensures { take (length bids.now) result ≡ bids.now }
 {
     let mut all = [bids[0]; 8];
-    for i in 0..bids.len() {
-        all[i] = bids[i];
-    }
+    all[..bids.len()].copy_from_slice(bids);
     all
 }
 
@@ -49,19 +41,15 @@ impl ExclusiveGroup {
     pub fn of(bids: &[Bid]) -> Option<ExclusiveGroup>
         ensures { MatchOption result (may_group bids.now ≡ false) (λ g. (may_group bids.now ≡ true) × (take g.size.members g.members ≡ bids.now)) }
     {
-        if bids.len() > MOST_MEMBERS as usize {
-            return None;
-        }
-        match GroupSize::of(bids.len() as u8) {
-            Ok(size) => grouped(bids, size),
-            Err(_fault) => None,
-        }
+        let count = u8::try_from(bids.len()).ok()?;
+        let size = GroupSize::of(count).ok()?;
+        grouped(bids, size)
     }
 
     // The members, in order.
     pub fn members(&self) -> &[Bid]
         ensures { result.now ≡ take self.now.size.members self.now.members }
     {
-        &self.members[0..self.size.members() as usize]
+        &self.members[..usize::from(self.size.members())]
     }
 }

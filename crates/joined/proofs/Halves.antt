@@ -1,6 +1,6 @@
 -- Two lots as one: T is m, and then n. What m and n answer on their own parts of the cells, T answers on all of them.
 -- Parted is a record so that T, m and n are found from its type, and need not be written.
-use Rattle.std.proofs.Common.{◌≡◌, ℕ, ◌+◌, ◌-◌, ◌*◌, ◌<◌, ◌≤◌, min, List, length, get_or, take, drop, ℤ, pos, ◌+ℤ◌, Some, None, Option, sym, refl, ap, ◌∙◌, subst, ap₂, arith, drop-cons}
+use Rattle.std.proofs.Common.{◌≡◌, ℕ, ◌+◌, ◌-◌, ◌*◌, ◌<◌, ◌≤◌, min, List, ◌∷◌, length, get_or, take, drop, ℤ, pos, ◌+ℤ◌, Some, None, Option, sym, refl, ap, ◌∙◌, subst, ap₂, arith, drop-cons}
 use Rattle.lot.specs.Sum.{sum, count}
 use Rattle.lot.specs.Meaning.{Meaning, Cells, Prices, Quoted, cell_rows, lot_net, money, amount}
 use Rattle.lot.specs.Duties.{most_lot_rows}
@@ -17,9 +17,9 @@ pub both : {A B : Type 0} (a : Ghosts A) (b : Ghosts B) (x : A) (y : B) → Part
 both a b x y = record { is = refl }
 
 -- the first of a list of lots, and the rest
-pub together_first : {A : Type 0} (f : A → Meaning) (xs : List A) (x : A) → 0 < length xs → x ≡ get_or xs 0 x → Parted (together f xs) (f x) (together f (drop 1 xs))
+pub together_first : {A : Type 0} (f : A → Meaning) {xs ys : List A} {x : A} → xs ≡ x ∷ ys → Parted (together f xs) (f x) (together f ys)
 unfolding together
-together_first f xs x h read = record { is = ap (together f) (drop-cons xs 0 x h) ∙ ap (λ y. join (f y) (together f (drop 1 xs))) (sym read) }
+together_first f e = record { is = ap (together f) e }
 
 pub nothing_cells : cell_rows nothing ≡ 0
 unfolding count
@@ -80,19 +80,19 @@ module _ {T m n : Meaning} (e : Parted T m n) where
     pub first_worth : m.worth (table_of f) r ≡ T.worth (table_of b) r
     first_worth = ap (λ x. m.worth x r) (front_cells b f ef) ∙ sym (beside_below m.rows (m.worth _) (n.worth _) r h) ∙ sym (ap (λ M. M.worth (table_of b) r) e.is)
 
-    pub first_amount : (p : Prices) → amount m (table_of f) p r ≡ amount T (table_of b) p r
-    first_amount p = ap (λ x. amount m x p r) (front_cells b f ef) ∙ ap (λ x. money x p) (sym (beside_below m.rows (m.net _) (n.net _) r h)) ∙ sym (ap (λ M. amount M (table_of b) p r) e.is)
+    pub first_net : m.net (table_of f) r ≡ T.net (table_of b) r
+    first_net = ap (λ x. m.net x r) (front_cells b f ef) ∙ sym (beside_below m.rows (m.net _) (n.net _) r h) ∙ sym (ap (λ M. M.net (table_of b) r) e.is)
 
   -- a row of the second
   module _ (b s : List ℕ) (es : s ≡ drop (17 * cell_rows m) b) (r : ℕ) (h : m.rows ≤ r) where
     pub next_worth : n.worth (table_of s) (r - m.rows) ≡ T.worth (table_of b) r
     next_worth = ap (λ x. n.worth x (r - m.rows)) (rest_cells b s es) ∙ sym (beside_above m.rows (m.worth _) (n.worth _) r h) ∙ sym (ap (λ M. M.worth (table_of b) r) e.is)
 
-    pub next_amount : (p : Prices) → amount n (table_of s) p (r - m.rows) ≡ amount T (table_of b) p r
-    next_amount p = ap (λ x. amount n x p (r - m.rows)) (rest_cells b s es) ∙ ap (λ x. money x p) (sym (beside_above m.rows (m.net _) (n.net _) r h)) ∙ sym (ap (λ M. amount M (table_of b) p r) e.is)
+    pub next_net : n.net (table_of s) (r - m.rows) ≡ T.net (table_of b) r
+    next_net = ap (λ x. n.net x (r - m.rows)) (rest_cells b s es) ∙ sym (beside_above m.rows (m.net _) (n.net _) r h) ∙ sym (ap (λ M. M.net (table_of b) r) e.is)
 
 -- ---- a figure of one row, by the lot, its cells and the row: the first's rows come before the second's
-pub record Figure (w : Meaning → Cells → ℕ → ℤ) : Type 0 where
+pub record Figure {A : Type 0} (w : Meaning → Cells → ℕ → A) : Type 0 where
   pub first : {T m n : Meaning} → Parted T m n → (b f : List ℕ) → f ≡ take (17 * cell_rows m) b → (r : ℕ) → r < m.rows → w m (table_of f) r ≡ w T (table_of b) r
   pub next : {T m n : Meaning} → Parted T m n → (b s : List ℕ) → s ≡ drop (17 * cell_rows m) b → (r : ℕ) → m.rows ≤ r → w n (table_of s) (r - m.rows) ≡ w T (table_of b) r
 
@@ -100,7 +100,16 @@ pub worths : Figure (λ m c r. m.worth c r)
 worths = record { first = λ e. first_worth e; next = λ e. next_worth e }
 
 pub amounts : (p : Prices) → Figure (λ m c r. amount m c p r)
-amounts p = record { first = λ e b f ef r h. first_amount e b f ef r h p; next = λ e b s es r h. next_amount e b s es r h p }
+amounts p = record { first = λ e b f ef r h. ap (λ x. money x p) (first_net e b f ef r h); next = λ e b s es r h. ap (λ x. money x p) (next_net e b s es r h) }
+
+abbrev pub worth_and_net : Meaning → Cells → ℕ → ℤ × (ℕ → ℕ → ℤ)
+worth_and_net m c r = (m.worth c r, m.net c r)
+
+pub figures : Figure worth_and_net
+figures = record {
+  first = λ e b f ef r h. ap₂ (λ x y. (x, y)) (first_worth e b f ef r h) (first_net e b f ef r h);
+  next = λ e b s es r h. ap₂ (λ x y. (x, y)) (next_worth e b s es r h) (next_net e b s es r h);
+}
 
 -- ---- a row that a question names, of cells that fulfil `ask`: the first's before the second's
 pub record Naming (ask : Meaning → List ℕ → Type 0) (q : Meaning → Cells → Option ℕ) : Type 0 where

@@ -127,18 +127,18 @@ pub topping_end : {p : Prices} {T all : Meaning} {total : ℤ} → Topping p T a
 topping_end {p} {T} inv e = let z : T.best p ≡ pos 0 = ap (λ M. M.best p) e in let k = inv.same in omega (arith, ints)
 
 -- ---- the figure of one row
-pub record Seeking (w : Meaning → Cells → ℕ → ℤ) (T all : Meaning) (rest cells : List ℕ) (left row : ℕ) : Type 0 where
+pub record Seeking {A : Type 0} (w : Meaning → Cells → ℕ → A) (T all : Meaning) (rest cells : List ℕ) (left row : ℕ) : Type 0 where
   pub ready : Ready T rest
   pub inside : left < T.rows
   pub same : w T (table_of rest) left ≡ w all (table_of cells) row
 
-pub seeking_none : {w : Meaning → Cells → ℕ → ℤ} {all : Meaning} {cells : List ℕ} {row : ℕ} → Ready all cells → row < all.rows → Seeking w all all cells cells row row
+pub seeking_none : {A : Type 0} {w : Meaning → Cells → ℕ → A} {all : Meaning} {cells : List ℕ} {row : ℕ} → Ready all cells → row < all.rows → Seeking w all all cells cells row row
 seeking_none r h = record { ready = r; inside = h; same = refl }
 
-pub seeking_end : {A : Type 0} {w : Meaning → Cells → ℕ → ℤ} {T all : Meaning} {rest cells : List ℕ} {left row : ℕ} → Seeking w T all rest cells left row → T ≡ nothing → A
+pub seeking_end : {A B : Type 0} {w : Meaning → Cells → ℕ → B} {T all : Meaning} {rest cells : List ℕ} {left row : ℕ} → Seeking w T all rest cells left row → T ≡ nothing → A
 seeking_end {T = T} inv e = let z : T.rows ≡ 0 = ap (λ M. M.rows) e in let k = inv.inside in absurd (omega arith)
 
-module _ {T m n : Meaning} (e : Parted T m n) {w : Meaning → Cells → ℕ → ℤ} {all : Meaning} {rest cells : List ℕ} {left row : ℕ} (inv : Seeking w T all rest cells left row) (k : ℕ) (ek : k ≡ min m.rows 4097) where
+module _ {T m n : Meaning} (e : Parted T m n) {A : Type 0} {w : Meaning → Cells → ℕ → A} {all : Meaning} {rest cells : List ℕ} {left row : ℕ} (inv : Seeking w T all rest cells left row) (k : ℕ) (ek : k ≡ min m.rows 4097) where
   pub seeking_below : left < k → left < m.rows
   seeking_below h = omega arith
 

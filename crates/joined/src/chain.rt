@@ -1,4 +1,4 @@
-ghost use Rattle.std.specs.Prelude.{◌≡◌, ℕ, ◌<◌};
+ghost use Rattle.std.specs.Prelude.{◌≡◌, ℕ, ◌<◌, MatchOption};
 ghost use Rattle.lot.specs.Meaning.{Meaning};
 ghost use Rattle.lot.specs.Duties.{Duties};
 ghost use Rattle.lot.specs.Join.{Parted, nothing};
@@ -25,9 +25,7 @@ pub trait Chain: Copy {
     fn left(&self) -> usize
         ensures { result ≡ left self.now };
 
-    // The first lot, and those after it.
-    fn split(self) -> (Self::Link, Self)
-        requires { 0 < left self }
-        ensures less { left result.1 < left self }
-        ensures step { Parted (meaning self) (Self.Link.Lot.meaning result.0) (meaning result.1) };
+    // The first lot, and those after it; none where no lot is left.
+    fn split(self) -> Option<(Self::Link, Self)>
+        ensures { MatchOption result (left self ≡ 0) (λ p. record { less : left p.1 < left self; step : Parted (meaning self) (Self.Link.Lot.meaning p.0) (meaning p.1) }) };
 }

@@ -57,10 +57,8 @@ impl<A: Lot, B: Lot> Lot for Joined<A, B> {
         if let Some(refused) = self.0.refused_row(front_part(&self.0, cells)) {
             return Some(refused);
         }
-        match self.1.refused_row(rest_part(&self.0, cells)) {
-            Some(refused) => Some(self.0.row_count() + refused),
-            None => None,
-        }
+        let refused = self.1.refused_row(rest_part(&self.0, cells))?;
+        Some(self.0.row_count() + refused)
     }
 
     fn net(&self, cells: Cells<'_>, area: usize, quarter: usize) -> i64 {
@@ -94,9 +92,7 @@ impl<A: Lot, B: Lot> Lot for Joined<A, B> {
         if let Some(broken) = self.0.broken_row(front_part(&self.0, cells), prices) {
             return Some(broken);
         }
-        match self.1.broken_row(rest_part(&self.0, cells), prices) {
-            Some(broken) => Some(self.0.row_count() + broken),
-            None => None,
-        }
+        let broken = self.1.broken_row(rest_part(&self.0, cells), prices)?;
+        Some(self.0.row_count() + broken)
     }
 }

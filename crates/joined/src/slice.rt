@@ -27,8 +27,8 @@ impl<'a, L: Lot> Chain for Slice<'a, L> {
         self.lots.len()
     }
 
-    fn split(self) -> (&'a L, Slice<'a, L>) {
-        let lots = self.lots;
-        (&lots[0], Slice { lots: &lots[1..] })
+    fn split(self) -> Option<(&'a L, Slice<'a, L>)> {
+        let (first, lots) = self.lots.split_first()?;
+        Some((first, Slice { lots }))
     }
 }

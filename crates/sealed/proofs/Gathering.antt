@@ -1,13 +1,14 @@
 -- Members that are read one after another.
-use Rattle.std.proofs.Common.{◌≡◌, ℕ, ◌+◌, ◌<◌, ◌≤◌, Bool, true, false, ◌&&◌, eqb, List, [], ◌∷◌, ◌++◌, length, take, set, Some, unwrap_or, sym, refl, ap, ◌∙◌, subst, ap₂, arith, length-set}
+use Rattle.std.proofs.Common.{◌≡◌, ℕ, ◌+◌, ◌<◌, ◌≤◌, Bool, true, false, ◌&&◌, eqb, List, [], ◌∷◌, ◌++◌, length, take, set, Some, unwrap_or, sym, refl, ap, ◌∙◌, subst, ap₂, arith, length-set, length-append, length-take-le, take_all, add-one}
 use Rattle.std.proofs.lemmas.Bool.{and_parts, eqb-true, eq-eqb}
+use Rattle.std.proofs.Math.Seq.{take-append_seam}
 use Rattle.std.proofs.lemmas.List.{take_more_set}
+use Rattle.bid.specs.declared.fields.BidFields.{BidFields}
 use Rattle.bid.specs.declared.lawful.Bid.{Bid}
 use Rattle.bid.specs.Group.{same_area}
 use Rattle.book.specs.declared.row.Row.{Row}
 use Rattle.book.specs.declared.row.Row.TheVariants as kind
 use Rattle.book.specs.declared.stand.Stand.{Stand}
-use Rattle.book.specs.Stands.{member_on}
 use Rattle.group.specs.Group.{in_area, one_area}
 use Rattle.sealed.specs.Ahead.{ahead}
 use Rattle.sealed.specs.Members.{bid_rows, MemberOn, Begun, Gathered}
@@ -32,61 +33,87 @@ one_from_in : (a : ℕ) (bs : List Bid) → in_area a bs ≡ true → one_area b
 one_from_in a [] h = refl
 one_from_in a (b ∷ bs) h = let both = and_parts (eqb b.fields.area a) (in_area a bs) h in ap (λ k. in_area k bs) (eqb-true b.fields.area a both.0) ∙ both.1
 
--- k of n members were read from (s, t) on, the first of some area, and (e, u) is left
-pub record Gathering (s : Stand) (t : List ℕ) (n k : ℕ) (all : List Bid) (e : Stand) (u : List ℕ) : Type 0 where
+-- of n members these were read from (s, t) on, the first of some area, and (e, u) is left
+pub record Gathering (s : Stand) (t : List ℕ) (n : ℕ) (bs : List Bid) (e : Stand) (u : List ℕ) : Type 0 where
   pub of : ℕ
-  pub long : length all ≡ 8
-  pub rows : ahead s t ≡ bid_rows (take k all) ++ ahead e u
-  pub due : e.due + k ≡ n
+  pub rows : ahead s t ≡ bid_rows bs ++ ahead e u
+  pub due : e.due + length bs ≡ n
   pub first : 0 < e.due → e.first ≡ Some of
-  pub same : 0 < e.due → e.same ≡ in_area of (take k all)
-  pub area : e.due ≡ 0 → in_area of (take k all) ≡ true
+  pub same : 0 < e.due → e.same ≡ in_area of bs
+  pub area : e.due ≡ 0 → in_area of bs ≡ true
 
-pub gathering_first : {s e : Stand} {t u : List ℕ} {n : ℕ} (b : Bid) (all : List Bid) → Begun s n → MemberOn s b.fields.area e → ahead s t ≡ kind.Bid b.fields ∷ ahead e u → length all ≡ 8 → take 1 all ≡ b ∷ [] → Gathering s t n 1 all e u
-gathering_first {s} {e} {t} {u} {n} b all g m rows long one =
+gathering_first : {s e : Stand} {t u : List ℕ} {n : ℕ} (b : Bid) → Begun s n → MemberOn s b.fields.area e → ahead s t ≡ kind.Bid b.fields ∷ ahead e u → Gathering s t n (b ∷ []) e u
+gathering_first b g m rows =
     let a = b.fields.area in
-    let own : in_area a (take 1 all) ≡ true = ap (in_area a) one ∙ ap (λ v. v && true) (eq-eqb a a refl) in
-    let fst : (member_on s a).first ≡ Some a = ap (λ o. Some (unwrap_or o a)) g.first in
-    let smp : (member_on s a).same ≡ true = ap₂ (λ v o. v && same_area o a) g.same g.first ∙ eq-eqb a a refl in
+    let own : in_area a (b ∷ []) ≡ true = ap (λ v. v && true) (eq-eqb a a refl) in
     let x = m.due in
     let y = g.due in
     record {
       of = a;
-      long = long;
-      rows = rows ∙ ap (λ bs. bid_rows bs ++ ahead e u) (sym one);
+      rows = rows;
       due = omega arith;
-      first = λ h. ap (λ (z : Stand). z.first) (m.on h) ∙ fst;
-      same = λ h. ap (λ (z : Stand). z.same) (m.on h) ∙ smp ∙ sym own;
+      first = λ h. ap (λ (z : Stand). z.first) (m.on h) ∙ ap (λ o. Some (unwrap_or o a)) g.first;
+      same = λ h. ap (λ (z : Stand). z.same) (m.on h) ∙ ap₂ (λ v o. v && same_area o a) g.same g.first ∙ eq-eqb a a refl ∙ sym own;
       area = λ _. own;
     }
 
-pub gathering_next : {s e f : Stand} {t u v : List ℕ} {n k : ℕ} {all : List Bid} → Gathering s t n k all e u → k < n → n ≤ 8 → (b : Bid) → MemberOn e b.fields.area f → ahead e u ≡ kind.Bid b.fields ∷ ahead f v → Gathering s t n (k + 1) (set all k b) f v
-gathering_next {s} {e} {f} {t} {u} {v} {n} {k} {all} g below few b m rows =
+gathering_next : {s e f : Stand} {t u v : List ℕ} {n : ℕ} {bs : List Bid} → Gathering s t n bs e u → length bs < n → (b : Bid) → MemberOn e b.fields.area f → ahead e u ≡ kind.Bid b.fields ∷ ahead f v → Gathering s t n (bs ++ (b ∷ [])) f v
+gathering_next {e = e} {f = f} {v = v} {bs = bs} g below b m rows =
     let a = g.of in
     let d = g.due in
     let left : 0 < e.due = omega arith in
     let x = m.due in
-    let long = g.long in
-    let more : take (k + 1) (set all k b) ≡ take k all ++ (b ∷ []) = take_more_set all k b (omega arith) in
-    let fst : (member_on e b.fields.area).first ≡ Some a = ap (λ o. Some (unwrap_or o b.fields.area)) (g.first left) in
-    let same : (member_on e b.fields.area).same ≡ in_area a (take (k + 1) (set all k b)) =
-    ap₂ (λ w o. w && same_area o b.fields.area) (g.same left) (g.first left) ∙ sym (area_push a (take k all) b) ∙ sym (ap (in_area a) more) in
+    let l = length-append bs (b ∷ []) in
+    let same = ap₂ (λ w o. w && same_area o b.fields.area) (g.same left) (g.first left) ∙ sym (area_push a bs b) in
     record {
       of = a;
-      long = length-set all k b ∙ g.long;
-      rows = g.rows ∙ ap (λ rs. bid_rows (take k all) ++ rs) rows ∙ rows_push (take k all) b (ahead f v) ∙ ap (λ bs. bid_rows bs ++ ahead f v) (sym more);
+      rows = g.rows ∙ ap (λ rs. bid_rows bs ++ rs) rows ∙ rows_push bs b (ahead f v);
       due = omega arith;
-      first = λ h. ap (λ (z : Stand). z.first) (m.on h) ∙ fst;
+      first = λ h. ap (λ (z : Stand). z.first) (m.on h) ∙ ap (λ o. Some (unwrap_or o b.fields.area)) (g.first left);
       same = λ h. ap (λ (z : Stand). z.same) (m.on h) ∙ same;
       area = λ h. sym same ∙ m.closes h;
     }
 
-pub gathering_due : {s e : Stand} {t u : List ℕ} {n k : ℕ} {all : List Bid} → Gathering s t n k all e u → k < n → 0 < e.due
-gathering_due g h = let d = g.due in omega arith
+-- a first member and k more were read from (s, t) on, of n in all, and the places of the others are still to be filled
+pub record Filling (s : Stand) (t : List ℕ) (n : ℕ) (k : ℕ) (places : List Bid) (e : Stand) (u : List ℕ) : Type 0 where
+  pub one : Bid
+  pub long : length places + 1 ≡ n
+  pub read : Gathering s t n (one ∷ take k places) e u
 
-pub gathering_end : {s e : Stand} {t u : List ℕ} {n k : ℕ} {all : List Bid} → Gathering s t n k all e u → k ≡ n → Gathered s t n all e u
-gathering_end {s} {e} {t} {u} {n} {k} {all} g h =
-    let a = g.of in
-    let d = g.due in
+pub filling_none : {s e : Stand} {t u : List ℕ} {n : ℕ} (b : Bid) (places : List Bid) → Begun s n → MemberOn s b.fields.area e → ahead s t ≡ kind.Bid b.fields ∷ ahead e u → length places + 1 ≡ n → Filling s t n 0 places e u
+filling_none b places g m rows long = record { one = b; long = long; read = gathering_first b g m rows }
+
+pub filling_due : {s e : Stand} {t u : List ℕ} {n k : ℕ} {places : List Bid} → Filling s t n k places e u → k < length places → 0 < e.due
+filling_due {k = k} {places} f h = let d = f.read.due in let l = f.long in let z = length-take-le k places (omega arith) in omega arith
+
+pub filling_next : {s e f : Stand} {t u v : List ℕ} {n k : ℕ} {places : List Bid} → Filling s t n k places e u → k < length places → (b : Bid) → MemberOn e b.fields.area f → ahead e u ≡ kind.Bid b.fields ∷ ahead f v → Filling s t n (k + 1) (set places k b) f v
+filling_next {s} {f = f} {t} {v = v} {n = n} {k} {places} g h b m rows =
+    let l = g.long in
+    let z = length-take-le k places (omega arith) in
+    record {
+      one = g.one;
+      long = ap (λ j. j + 1) (length-set places k b) ∙ g.long;
+      read = subst (λ bs. Gathering s t n (g.one ∷ bs) f v) (sym (take_more_set places k b h)) (gathering_next g.read (omega arith) b m rows);
+    }
+
+-- the first stands before the places, which are filled
+pub filling_end : {s e : Stand} {t u : List ℕ} {n k : ℕ} {places : List Bid} {others : List Row} → Filling s t n k places e u → length places ≤ k → (b : Bid) → ahead s t ≡ kind.Bid b.fields ∷ others → (back : List Bid) → length (b ∷ (places ++ back)) ≡ 8 → Gathered s t n (b ∷ (places ++ back)) e u
+filling_end {s} {e} {t = t} {u} {n = n} {k} {places} g h b first back long =
+    let r = g.read in
+    let whole : take k places ≡ places = take_all k places h in
+    let rows : ahead s t ≡ kind.Bid g.one.fields ∷ (bid_rows places ++ ahead e u) = r.rows ∙ ap (λ bs. bid_rows (g.one ∷ bs) ++ ahead e u) whole in
+    let same : g.one.fields ≡ b.fields = same_bid (sym rows ∙ first) in
+    let front : take n (b ∷ (places ++ back)) ≡ b ∷ places = ap (λ m. take m (b ∷ (places ++ back))) (sym g.long ∙ add-one (length places)) ∙ ap (λ bs. b ∷ bs) (take-append_seam places back) in
+    let d = r.due in
+    let l = g.long in
+    let z = ap length whole in
     let done : e.due ≡ 0 = omega arith in
-    subst (λ j. Gathered s t j all e u) h (record { long = g.long; rows = g.rows; area = one_from_in a (take k all) (g.area done); whole = done })
+    record {
+      long = long;
+      rows = rows ∙ ap (λ x. kind.Bid x ∷ (bid_rows places ++ ahead e u)) same ∙ ap (λ bs. bid_rows bs ++ ahead e u) (sym front);
+      area = ap one_area front ∙ ap (λ x. in_area x.area places) (sym same) ∙ ap (in_area g.one.fields.area) (sym whole) ∙ one_from_in r.of (g.one ∷ take k places) (r.area done);
+      whole = done;
+    }
+  where
+    same_bid : {x y : BidFields} {p q : List Row} → kind.Bid x ∷ p ≡ kind.Bid y ∷ q → x ≡ y
+    same_bid e = cc

@@ -1,7 +1,14 @@
 -- A book's first order, and the orders after it.
-use Rattle.std.proofs.Common.{◌≡◌, ℕ, ◌<◌, false, eqb, List, [], ◌∷◌, ◌++◌, map, length, take, drop, Some, Ok, Option, Result, sym, refl, ap, ◌∙◌, subst, ap₂, arith, length-append}
+use Rattle.std.proofs.Common.{Bool, true, ◌&&◌, Err, ◌≡◌, ℕ, ◌<◌, false, eqb, List, [], ◌∷◌, ◌++◌, map, length, take, drop, Some, Ok, Option, Result, sym, refl, ap, ◌∙◌, subst, ap₂, arith, length-append}
 use Rattle.std.proofs.lemmas.Bool.{eq-eqb, both_ways}
+use Rattle.std.specs.Result.{result_map_both}
 use Rattle.byte_layer.specs.declared.fault.Told.{Told}
+use Rattle.byte_layer.specs.Fault.{heard}
+use Rattle.units.specs.declared.field.FieldFault.{FieldFault}
+use Rattle.units.specs.Field.{told_field, judged}
+use Rattle.units.proofs.Judged.{judged_ok, no_err}
+use Rattle.order.specs.declared.order.Order.{Order}
+use Rattle.sealed.proofs.Turns.{refused_lawful}
 use Rattle.lot.specs.Join.{join, together, Parted}
 use Rattle.lot.specs.Single.{exclusive}
 use Rattle.bid.specs.declared.fields.BidFields.{BidFields}
@@ -103,3 +110,12 @@ not_group (kind.Border f) h = refl
 -- fewer rows are left
 pub fewer : (xs ys : List Row) (r : Row) (zs : List Row) (a b : ℕ) → xs ≡ r ∷ (ys ++ zs) → length xs ≡ a → length zs ≡ b → b < a
 fewer xs ys r zs a b e f g = let l = ap length e in let m = length-append ys zs in omega arith
+
+-- ---- what lawful fields make: an order, which is of those fields
+pub not_refused : {V F P : Type 0} (make : V → Order) (view : V → F) (areas others : Bool) (f : F) (r : Result V FieldFault) → heard (told_field 0) (result_map_both view (λ e. e) r) ≡ judged 0 areas others f → (areas && others) ≡ true → (x : FieldFault) → Err x ≡ result_map_both make (λ e. e) r → P
+not_refused make view areas others f (Ok v) e law x is = no_err x (make v) is
+not_refused make view areas others f (Err y) e law x is = refused_lawful (told_field 0 y) areas others f e law
+
+pub made_of : {V F : Type 0} (make : V → Order) (view : V → F) (areas others : Bool) (f : F) (r : Result V FieldFault) → heard (told_field 0) (result_map_both view (λ e. e) r) ≡ judged 0 areas others f → (o : Order) → Ok o ≡ result_map_both make (λ e. e) r → (v : V) × (make v ≡ o) × (f ≡ view v)
+made_of make view areas others f (Ok v) e o is = (v, cc, (judged_ok 0 areas others f (view v) (sym e)).same)
+made_of make view areas others f (Err y) e o is = no_err y o (sym is)

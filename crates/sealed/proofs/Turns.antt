@@ -85,16 +85,13 @@ module _ (s : Stand) (t : List ℕ) (r : Row) (n : Stand) (e : step_of s t ≡ O
   unfolding ahead
   on_rows h = ap rows_of on_turn ∙ rows_push r (read_rows (length (drop (row_size r) t)) n (drop (row_size r) t)) (on_reads h)
 
--- a reader with rows before it meets no fault and no seal
-seal_rows : (s : Stand) (t : List ℕ) → step_of s t ≡ Ok None → length (ahead s t) ≡ 0
+-- at the seal no row is left, and a reader of a sound text meets no fault
+pub seal_rows : (s : Stand) (t : List ℕ) → step_of s t ≡ Ok None → ahead s t ≡ []
 unfolding ahead
-seal_rows s t e = ap (λ x. length (rows_of x)) (reads_seal (length t) s t e (omega arith))
+seal_rows s t e = ap rows_of (reads_seal (length t) s t e (omega arith))
 
 fault_reads : (s : Stand) (t : List ℕ) (x : Told) → step_of s t ≡ Err x → reads_on s t ≡ false
 fault_reads s t x e = ap reads (reads_fault (length t) s t x e (omega arith))
-
-pub no_seal : {P : Type 0} (s : Stand) (t : List ℕ) → step_of s t ≡ Ok None → 0 < length (ahead s t) → P
-no_seal s t e h = let z = seal_rows s t e in absurd (omega arith)
 
 pub no_fault : {P : Type 0} (s : Stand) (t : List ℕ) (x : Told) → step_of s t ≡ Err x → reads_on s t ≡ true → P
 no_fault s t x e h = let z : true ≡ false = sym h ∙ fault_reads s t x e in let w : ◌≡◌ {A = ℕ} 0 1 = cc in absurd (omega arith)

@@ -1,43 +1,21 @@
 ghost use Rattle.std.specs.Prelude.{◌≡◌};
 ghost use Rattle.book.specs.Reading.{rows_in};
-ghost use Rattle.sealed.specs.Ahead.{ahead};
+ghost use Rattle.sealed.specs.Left.{rows_left};
 ghost use Rattle.sealed.specs.Lot.{book_meaning};
-ghost use Rattle.sealed.specs.Laws.Books.{book_duties, orders_end};
+ghost use Rattle.sealed.specs.Laws.Books.{book_duties};
 
 use crate::orders::Orders;
 use crate::sealed_book::SealedBook;
-use joined::chain::Chain;
 use joined::chained::Chained;
 use lot::lot::Lot;
 use lot::views::{Cells, Prices};
-use order::order::Order;
-
-impl<'a> Chain for Orders<'a> {
-    type Link = Order;
-
-    ghost meaning = { λ x. book_meaning (ahead x.rows.stand x.rows.rest.now) };
-
-    ghost left = { λ x. x.rows.left };
-
-    ghost ends = { λ x. orders_end (ahead x.rows.stand x.rows.rest.now) x.rows.left x.rows.count };
-
-    ghost duties = { λ x. book_duties (ahead x.rows.stand x.rows.rest.now) x.rows.lawful };
-
-    fn left(&self) -> usize {
-        self.rows.left
-    }
-
-    fn split(self) -> (Order, Orders<'a>) {
-        self.next_order()
-    }
-}
 
 impl<'a> SealedBook<'a> {
     // The orders of the book, one after another.
     fn orders(self) -> Chained<Orders<'a>>
-        ensures { ahead result.0.rows.stand result.0.rows.rest.now ≡ rows_in self.entry.text.now }
+        ensures { rows_left result.0.rows ≡ rows_in self.entry.text.now }
     {
-        Chained(Orders { rows: self.all() })
+        Chained(Orders { rows: self.iter() })
     }
 }
 

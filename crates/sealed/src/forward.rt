@@ -1,9 +1,8 @@
-ghost use Rattle.std.specs.Prelude.{◌≡◌, ◌+◌, ◌<◌, ◌≤◌, false, not, ◌&&◌, ◌∷◌, length, drop, Some, Ok, nat_lt};
-ghost use Rattle.book.specs.Command.{is_bid};
-ghost use Rattle.book.specs.Rows.{command_of, row_size};
-ghost use Rattle.book.specs.Stands.{begin, after};
+ghost use Rattle.std.specs.Prelude.{◌≡◌, ◌≤◌, [], length, drop, Some, Ok, MatchOption};
+ghost use Rattle.std.specs.Iterator.{YieldsFirst, item_count};
+ghost use Rattle.book.specs.Rows.{row_size};
 ghost use Rattle.book.specs.Reading.{step_of, rows_in};
-ghost use Rattle.sealed.specs.Ahead.{ahead};
+ghost use Rattle.sealed.specs.Left.{rows_left, NextRow};
 
 use crate::rows::Rows;
 use crate::sealed_book::SealedBook;
@@ -12,10 +11,10 @@ use book::stand::Stand;
 use book::step::step;
 
 impl<'a> SealedBook<'a> {
-    // All rows, from the front.
-    pub(crate) fn all(self) -> Rows<'a>
-        ensures rest { result.rest.now ≡ self.entry.text.now }
-        ensures stand { result.stand ≡ begin }
+    // The rows from the first to the last, each decoded where it lies.
+    pub fn iter(&self) -> Rows<'a>
+        ensures rows { rows_left result ≡ rows_in self.now.text.now }
+        ensures whole { result.stand.due ≡ 0 }
     {
         Rows {
             rest: self.text,
@@ -47,17 +46,50 @@ impl<'a> Rows<'a> {
         }
     }
 
-    // The next row, and the rows after it.
-    pub(crate) fn next(self) -> (Row, Rows<'a>)
-        requires { 0 < self.left }
-        ensures ahead { ahead self.entry.stand self.entry.rest.now ≡ result.0 ∷ ahead result.1.stand result.1.rest.now }
-        ensures after { after self.entry.stand result.0 ≡ Ok (Some (result.0, result.1.stand)) }
-        ensures due { (nat_lt 0 self.entry.stand.due && not (is_bid (command_of result.0))) ≡ false }
+    // The next row, and the rows after it; none at the seal.
+    pub(crate) fn split_first(self) -> Option<(Row, Rows<'a>)>
+        ensures { MatchOption result (rows_left self.entry ≡ []) (λ p. NextRow self.entry p.0 p.1) }
     {
-        match step(self.rest, self.stand) {
-            Ok(Some((row, next))) => (row, self.behind(&row, next)),
-            Ok(None) => unreachable(),
-            Err(_fault) => unreachable(),
-        }
+        let Ok(stepped) = step(self.rest, self.stand) else {
+            unreachable()
+        };
+        let (row, next) = stepped?;
+        Some((row, self.behind(&row, next)))
+    }
+}
+
+impl<'a> Iterator for Rows<'a> {
+    type Item = Row;
+
+    ghost next_gives = { YieldsFirst rows_left };
+
+    ghost remaining = { item_count rows_left };
+
+    fn next(&mut self) -> Option<Row> {
+        let (row, after) = self.split_first()?;
+        *self = after;
+        Some(row)
+    }
+
+    fn size_hint(&self) -> (usize, Option<usize>) {
+        (self.left, Some(self.left))
+    }
+}
+
+impl<'a> ExactSizeIterator for Rows<'a> {
+    fn len(&self) -> usize {
+        self.left
+    }
+}
+
+impl<'a> IntoIterator for SealedBook<'a> {
+    type Item = Row;
+
+    type IntoIter = Rows<'a>;
+
+    ghost into_iter_gives = { λ book rows. rows_left rows ≡ rows_in book.text.now };
+
+    fn into_iter(self) -> Rows<'a> {
+        self.iter()
     }
 }

@@ -7,8 +7,6 @@ use crate::sealed_book::SealedBook;
 use book::check::{Checked, check};
 use book::command::SEAL;
 use book::row::Row;
-use book::stand::Stand;
-use book::step::step;
 
 impl<'a> SealedBook<'a> {
     // The book of a text, or, where the text fails its check, the book of no rows: a seal alone.
@@ -52,22 +50,6 @@ impl<'a> SealedBook<'a> {
         if i >= self.found.rows {
             return None;
         }
-        let mut rest = self.text;
-        let mut s = Stand::begin();
-        for _k in 0..i {
-            match step(rest, s) {
-                Ok(Some((row, next))) => {
-                    rest = &rest[row.size()..];
-                    s = next;
-                }
-                Ok(None) => return None,
-                Err(_fault) => return None,
-            }
-        }
-        match step(rest, s) {
-            Ok(Some((row, _next))) => Some(row),
-            Ok(None) => None,
-            Err(_fault) => None,
-        }
+        self.iter().nth(i)
     }
 }

@@ -2,13 +2,15 @@ ghost use Rattle.std.specs.Prelude.{◌≡◌, ◌+◌, ◌<◌, true, false, Li
 ghost use Rattle.lot.specs.Join.{Parted};
 ghost use Rattle.book.specs.declared.row.Row.{Row as RowOf};
 ghost use Rattle.order.specs.Order.{order_meaning};
-ghost use Rattle.sealed.specs.Ahead.{ahead};
+ghost use Rattle.sealed.specs.Left.{rows_left};
 ghost use Rattle.sealed.specs.Lot.{is_group, book_meaning, lawful_row};
+ghost use Rattle.sealed.specs.Laws.Books.{book_duties, orders_end};
 
 use crate::orders::Orders;
 use bid::lawful::Bid;
 use book::row::Row;
 use border::lawful::Border;
+use joined::chain::Chain;
 use need::lawful::Need;
 use order::order::Order;
 
@@ -18,35 +20,37 @@ fn single_order(row: Row) -> Order
     requires single { is_group row ≡ false }
     ensures { (rs : List RowOf) → Parted (book_meaning (row ∷ rs)) (order_meaning result) (book_meaning rs) }
 {
-    match row {
-        Row::Bid(fields) => match Bid::of(fields) {
-            Ok(bid) => Order::Bid(bid),
-            Err(_fault) => unreachable(),
-        },
-        Row::Need(fields) => match Need::of(fields) {
-            Ok(need) => Order::Need(need),
-            Err(_fault) => unreachable(),
-        },
-        Row::Border(fields) => match Border::of(fields) {
-            Ok(border) => Order::Border(border),
-            Err(_fault) => unreachable(),
-        },
+    let made = match row {
+        Row::Bid(fields) => Bid::of(fields).map(Order::Bid),
+        Row::Need(fields) => Need::of(fields).map(Order::Need),
+        Row::Border(fields) => Border::of(fields).map(Order::Border),
         Row::Group(_) => unreachable(),
-    }
+    };
+    let Ok(order) = made else { unreachable() };
+    order
 }
 
-impl<'a> Orders<'a> {
-    // The next order, and the orders after it.
-    pub(crate) fn next_order(self) -> (Order, Orders<'a>)
-        requires { 0 < self.rows.left }
-        ensures less { result.1.rows.left < self.entry.rows.left }
-        ensures step { Parted (book_meaning (ahead self.entry.rows.stand self.entry.rows.rest.now)) (order_meaning result.0) (book_meaning (ahead result.1.rows.stand result.1.rows.rest.now)) }
-    {
-        let (row, after) = self.rows.next();
+impl<'a> Chain for Orders<'a> {
+    type Link = Order;
+
+    ghost meaning = { λ x. book_meaning (rows_left x.rows) };
+
+    ghost left = { λ x. x.rows.left };
+
+    ghost ends = { λ x. orders_end (rows_left x.rows) x.rows.left x.rows.count };
+
+    ghost duties = { λ x. book_duties (rows_left x.rows) x.rows.lawful };
+
+    fn left(&self) -> usize {
+        self.rows.left
+    }
+
+    fn split(self) -> Option<(Order, Orders<'a>)> {
+        let (row, after) = self.rows.split_first()?;
         if let Row::Group(size) = row {
-            let (group, rest) = after.group(size as usize);
-            return (Order::Group(group), Orders { rows: rest });
+            let (group, rest) = after.group(usize::from(size));
+            return Some((Order::Group(group), Orders { rows: rest }));
         }
-        (single_order(row), Orders { rows: after })
+        Some((single_order(row), Orders { rows: after }))
     }
 }

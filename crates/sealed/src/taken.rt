@@ -2,7 +2,7 @@ ghost use Rattle.std.specs.Prelude.{◌≡◌, ◌<◌, ◌≤◌, true, ◌∷�
 ghost use Rattle.bid.specs.Group.{group_fine};
 ghost use Rattle.book.specs.declared.row.Row.TheVariants as kind;
 ghost use Rattle.order.specs.Order.{members_of};
-ghost use Rattle.sealed.specs.Ahead.{ahead};
+ghost use Rattle.sealed.specs.Left.{rows_left};
 ghost use Rattle.sealed.specs.Members.{bid_rows, MemberOn, Begun, Gathered};
 
 use crate::rows::Rows;
@@ -14,19 +14,17 @@ impl<'a> Rows<'a> {
     // The next member of the group underway, and the rows after it.
     fn member(self) -> (Bid, Rows<'a>)
         requires { 0 < self.stand.due }
-        ensures ahead { ahead self.entry.stand self.entry.rest.now ≡ kind.Bid result.0.fields ∷ ahead result.1.stand result.1.rest.now }
+        ensures ahead { rows_left self.entry ≡ kind.Bid result.0.fields ∷ rows_left result.1 }
         ensures stands { MemberOn self.entry.stand result.0.fields.area result.1.stand }
     {
-        let (row, after) = self.next();
-        match row {
-            Row::Bid(fields) => match Bid::of(fields) {
-                Ok(bid) => (bid, after),
-                Err(_fault) => unreachable(),
-            },
-            Row::Group(_) => unreachable(),
-            Row::Need(_) => unreachable(),
-            Row::Border(_) => unreachable(),
-        }
+        let Some((row, after)) = self.split_first() else {
+            unreachable()
+        };
+        let Row::Bid(fields) = row else { unreachable() };
+        let Ok(bid) = Bid::of(fields) else {
+            unreachable()
+        };
+        (bid, after)
     }
 
     // The members of the group underway, at the front of an array, and the rows after them.
@@ -38,10 +36,8 @@ impl<'a> Rows<'a> {
         let (first, after) = self.member();
         let mut all = [first; 8];
         let mut rows = after;
-        for k in 1..size {
-            let (bid, after) = rows.member();
-            all[k] = bid;
-            rows = after;
+        for slot in &mut all[1..size] {
+            (*slot, rows) = rows.member();
         }
         (all, rows)
     }
@@ -50,14 +46,14 @@ impl<'a> Rows<'a> {
     pub(crate) fn group(self, size: usize) -> (ExclusiveGroup, Rows<'a>)
         requires begun { Begun self.stand size }
         requires fine { group_fine size ≡ true }
-        ensures ahead { ahead self.entry.stand self.entry.rest.now ≡ bid_rows (members_of result.0) ++ ahead result.1.stand result.1.rest.now }
+        ensures ahead { rows_left self.entry ≡ bid_rows (members_of result.0) ++ rows_left result.1 }
         ensures size { length (members_of result.0) ≡ size }
         ensures whole { result.1.stand.due ≡ 0 }
     {
         let (all, rows) = self.members(size);
-        match ExclusiveGroup::of(&all[0..size]) {
-            Some(group) => (group, rows),
-            None => unreachable(),
-        }
+        let Some(group) = ExclusiveGroup::of(&all[..size]) else {
+            unreachable()
+        };
+        (group, rows)
     }
 }

@@ -1,4 +1,4 @@
-use Rattle.std.proofs.Common.{arith}
+use Rattle.std.proofs.Common.{◌∙◌, arith}
 use Rattle.lot.proofs.Splits.{priced_quoted}
 use Rattle.joined.proofs.Halves.{both, asks, first_ready, next_ready, breaks, named_first, named_neither, named_below, named_second}
 use Rattle.joined.proofs.joined.JoinedLot.broken_row.Goals as goal
@@ -20,12 +20,12 @@ broken_row-requires-2 g c = record { ready = next_ready (both g.A.Lot g.B.Lot c.
 
 pub overflow_add-result : goal.overflow_add-result
 overflow_add-result g c =
-    let below = named_below (breaks _ (priced_quoted _ c.requires.priced)) (both g.A.Lot g.B.Lot c.args.self.now.0 c.args.self.now.1) c.args.cells.bytes.now _ c.front_part.ensures _ c.broken_row.ensures c.in_default.is _ c.rest_part.ensures _ c.broken_row-2.ensures c.requires.ready _ c.in-Some-broken_row.is in
+    let below = named_below (breaks _ (priced_quoted _ c.requires.priced)) (both g.A.Lot g.B.Lot c.args.self.now.0 c.args.self.now.1) c.args.cells.bytes.now _ c.front_part.ensures _ c.broken_row.ensures c.in_default.is _ c.rest_part.ensures _ c.broken_row-2.ensures c.requires.ready _ c.in_ok-broken.was in
     let few = c.requires.ready.sized.few in
     omega arith
 
-pub returns-in-Some-broken_row : goal.returns-in-Some-broken_row
-returns-in-Some-broken_row g c = named_second (breaks _ (priced_quoted _ c.requires.priced)) (both g.A.Lot g.B.Lot c.args.self.now.0 c.args.self.now.1) c.args.cells.bytes.now _ c.front_part.ensures _ c.broken_row.ensures c.in_default.is _ c.rest_part.ensures _ c.broken_row-2.ensures c.requires.ready _ c.in-Some-broken_row.is _ c.row_count.ensures
+pub returns : goal.returns
+returns g c = named_second (breaks _ (priced_quoted _ c.requires.priced)) (both g.A.Lot g.B.Lot c.args.self.now.0 c.args.self.now.1) c.args.cells.bytes.now _ c.front_part.ensures _ c.broken_row.ensures c.in_default.is _ c.rest_part.ensures _ c.broken_row-2.ensures c.requires.ready _ c.in_ok-broken.was _ c.row_count.ensures
 
-pub returns-in-None : goal.returns-in-None
-returns-in-None g c = named_neither (breaks _ (priced_quoted _ c.requires.priced)) (both g.A.Lot g.B.Lot c.args.self.now.0 c.args.self.now.1) c.args.cells.bytes.now _ c.front_part.ensures _ c.broken_row.ensures c.in_default.is _ c.rest_part.ensures _ c.broken_row-2.ensures c.in-None.is
+pub returns-in_err-broken : goal.returns-in_err-broken
+returns-in_err-broken g c = c.from_residual.ensures ∙ named_neither (breaks _ (priced_quoted _ c.requires.priced)) (both g.A.Lot g.B.Lot c.args.self.now.0 c.args.self.now.1) c.args.cells.bytes.now _ c.front_part.ensures _ c.broken_row.ensures c.in_default.is _ c.rest_part.ensures _ c.broken_row-2.ensures c.in_err-broken.was

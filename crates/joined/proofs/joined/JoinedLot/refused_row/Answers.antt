@@ -1,4 +1,4 @@
-use Rattle.std.proofs.Common.{arith}
+use Rattle.std.proofs.Common.{◌∙◌, arith}
 use Rattle.joined.proofs.Halves.{both, asks, first_sized, next_sized, refusals, named_first, named_neither, named_below, named_second}
 use Rattle.joined.proofs.joined.JoinedLot.refused_row.Goals as goal
 
@@ -19,12 +19,12 @@ refused_row-requires-2 g c = next_sized (both g.A.Lot g.B.Lot c.args.self.now.0 
 
 pub overflow_add-result : goal.overflow_add-result
 overflow_add-result g c =
-    let below = named_below refusals (both g.A.Lot g.B.Lot c.args.self.now.0 c.args.self.now.1) c.args.cells.bytes.now _ c.front_part.ensures _ c.refused_row.ensures c.in_default.is _ c.rest_part.ensures _ c.refused_row-2.ensures c.requires _ c.in-Some-refused_row.is in
+    let below = named_below refusals (both g.A.Lot g.B.Lot c.args.self.now.0 c.args.self.now.1) c.args.cells.bytes.now _ c.front_part.ensures _ c.refused_row.ensures c.in_default.is _ c.rest_part.ensures _ c.refused_row-2.ensures c.requires _ c.in_ok-refused.was in
     let few = c.requires.few in
     omega arith
 
-pub returns-in-Some-refused_row : goal.returns-in-Some-refused_row
-returns-in-Some-refused_row g c = named_second refusals (both g.A.Lot g.B.Lot c.args.self.now.0 c.args.self.now.1) c.args.cells.bytes.now _ c.front_part.ensures _ c.refused_row.ensures c.in_default.is _ c.rest_part.ensures _ c.refused_row-2.ensures c.requires _ c.in-Some-refused_row.is _ c.row_count.ensures
+pub returns : goal.returns
+returns g c = named_second refusals (both g.A.Lot g.B.Lot c.args.self.now.0 c.args.self.now.1) c.args.cells.bytes.now _ c.front_part.ensures _ c.refused_row.ensures c.in_default.is _ c.rest_part.ensures _ c.refused_row-2.ensures c.requires _ c.in_ok-refused.was _ c.row_count.ensures
 
-pub returns-in-None : goal.returns-in-None
-returns-in-None g c = named_neither refusals (both g.A.Lot g.B.Lot c.args.self.now.0 c.args.self.now.1) c.args.cells.bytes.now _ c.front_part.ensures _ c.refused_row.ensures c.in_default.is _ c.rest_part.ensures _ c.refused_row-2.ensures c.in-None.is
+pub returns-in_err-refused : goal.returns-in_err-refused
+returns-in_err-refused g c = c.from_residual.ensures ∙ named_neither refusals (both g.A.Lot g.B.Lot c.args.self.now.0 c.args.self.now.1) c.args.cells.bytes.now _ c.front_part.ensures _ c.refused_row.ensures c.in_default.is _ c.rest_part.ensures _ c.refused_row-2.ensures c.in_err-refused.was

@@ -1,15 +1,15 @@
-use Rattle.std.proofs.Common.{refl, arith}
-use Rattle.sealed.proofs.Gathering.{gathering_first, gathering_next, gathering_due, gathering_end}
+use Rattle.std.proofs.Common.{arith, length-drop, length-take, length-append}
+use Rattle.sealed.proofs.Gathering.{filling_none, filling_due, filling_next, filling_end}
 use Rattle.sealed.proofs.rows.Rows.members.Goals as goal
 
-pub loop-k-init : goal.loop-k-init
-loop-k-init c = gathering_first c.member.result.0 _ c.requires.begun c.member.ensures.stands c.member.ensures.ahead refl refl
+pub loop-slot-init : goal.loop-slot-init
+loop-slot-init c = filling_none c.member.result.0 _ c.requires.begun c.member.ensures.stands c.member.ensures.ahead (simp length-take (omega arith))
 
-pub member-requires-in-loop-k : goal.member-requires-in-loop-k
-member-requires-in-loop-k c = gathering_due c.loop-k.invariant c.loop-k-test.true
+pub member-requires-in-loop-slot : goal.member-requires-in-loop-slot
+member-requires-in-loop-slot c = filling_due c.loop-slot.invariant (omega arith)
 
-pub loop-k-preserved : goal.loop-k-preserved
-loop-k-preserved c = gathering_next c.loop-k.invariant c.loop-k-test.true c.requires.size.1 _ c.member-in-loop-k.ensures.stands c.member-in-loop-k.ensures.ahead
+pub loop-slot-preserved : goal.loop-slot-preserved
+loop-slot-preserved c = filling_next c.loop-slot.invariant (omega arith) _ c.member-in-loop-slot.ensures.stands c.member-in-loop-slot.ensures.ahead
 
 pub returns : goal.returns
-returns c = gathering_end c.loop-k.invariant (omega arith)
+returns c = filling_end c.loop-slot.invariant (omega arith) c.member.result.0 c.member.ensures.ahead _ (let l = c.loop-slot.invariant.long in simp (length-append, length-drop) (omega arith))
