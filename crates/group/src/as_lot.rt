@@ -1,5 +1,5 @@
 ghost use Rattle.std.specs.Prelude.{◌≡◌, ℕ, ◌*◌, ◌≤◌, not, map, length, take, if◌then◌else◌};
-ghost use Rattle.lot.specs.Page.{table_of, Priced};
+ghost use Rattle.lot.specs.Page.{table_of};
 ghost use Rattle.lot.specs.Single.{at_most_one, largest};
 ghost use Rattle.group.specs.Group.{member_of, grouping};
 ghost use Rattle.group.specs.Laws.Groups.{grouping_duties};
@@ -12,7 +12,7 @@ use joined::joined::Joined;
 use joined::slice::Slice;
 use lot::lot::Lot;
 use lot::quarters::is_idle;
-use lot::views::{Cells, Prices};
+use lot::views::{CappedPrices, Cells};
 
 // Is at most one of the first cell rows not all zero?
 fn at_most_one(cells: Cells<'_>, rows: usize) -> bool
@@ -23,8 +23,7 @@ fn at_most_one(cells: Cells<'_>, rows: usize) -> bool
 }
 
 // The largest best of the bids, or 0.
-fn largest_best(bids: &[Bid], prices: Prices<'_>) -> i64
-    requires { Priced prices.bytes.now }
+fn largest_best(bids: &[Bid], prices: CappedPrices<'_>) -> i64
     ensures { result ≡ largest (map member_of bids.now) (table_of prices.entry.bytes.now) }
 {
     bids.iter()
@@ -83,15 +82,15 @@ impl Lot for ExclusiveGroup {
         self.rows().worth(cells, row)
     }
 
-    fn amount(&self, cells: Cells<'_>, prices: Prices<'_>, row: usize) -> i64 {
+    fn amount(&self, cells: Cells<'_>, prices: CappedPrices<'_>, row: usize) -> i64 {
         self.rows().amount(cells, prices, row)
     }
 
-    fn best(&self, prices: Prices<'_>) -> i64 {
+    fn best(&self, prices: CappedPrices<'_>) -> i64 {
         largest_best(self.members(), prices)
     }
 
-    fn broken_row(&self, cells: Cells<'_>, prices: Prices<'_>) -> Option<usize> {
+    fn broken_row(&self, cells: Cells<'_>, prices: CappedPrices<'_>) -> Option<usize> {
         self.rows().broken_row(cells, prices)
     }
 }

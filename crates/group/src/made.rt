@@ -42,7 +42,7 @@ impl ExclusiveGroup {
         ensures { MatchOption result (may_group bids.now ≡ false) (λ g. (may_group bids.now ≡ true) × (take g.size.members g.members ≡ bids.now)) }
     {
         let count = u8::try_from(bids.len()).ok()?;
-        let size = GroupSize::of(count).ok()?;
+        let size = GroupSize::try_from(count).ok()?;
         grouped(bids, size)
     }
 

@@ -4,7 +4,7 @@ ghost use Rattle.lot.specs.Page.{table_of, Ready};
 use crate::chain::Chain;
 use crate::joined::{COUNTED, front_part, rest_part};
 use lot::lot::Lot;
-use lot::views::{Cells, Prices};
+use lot::views::{CappedPrices, Cells};
 
 // Lots one after another as one lot.
 #[derive(Clone, Copy)]
@@ -100,12 +100,12 @@ impl<C: Chain> Lot for Chained<C> {
         lot.worth(front, left)
     }
 
-    fn amount(&self, cells: Cells<'_>, prices: Prices<'_>, row: usize) -> i64 {
+    fn amount(&self, cells: Cells<'_>, prices: CappedPrices<'_>, row: usize) -> i64 {
         let (lot, front, left) = lot_of_row(self.0, cells, row);
         lot.amount(front, prices, left)
     }
 
-    fn best(&self, prices: Prices<'_>) -> i64 {
+    fn best(&self, prices: CappedPrices<'_>) -> i64 {
         let mut chain = self.0;
         let mut total = 0;
         'walk: while let Some((lot, after)) = chain.split() {
@@ -115,7 +115,7 @@ impl<C: Chain> Lot for Chained<C> {
         total
     }
 
-    fn broken_row(&self, cells: Cells<'_>, prices: Prices<'_>) -> Option<usize> {
+    fn broken_row(&self, cells: Cells<'_>, prices: CappedPrices<'_>) -> Option<usize> {
         let mut chain = self.0;
         let mut rest = cells;
         let mut passed = 0;

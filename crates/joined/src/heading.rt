@@ -2,7 +2,7 @@ ghost use Rattle.lot.specs.Join.{blank};
 ghost use Rattle.lot.specs.Laws.Joins.{blank_duties};
 
 use lot::lot::Lot;
-use lot::views::{Cells, Prices};
+use lot::views::{CappedPrices, Cells};
 
 // A row without cells, as stands before the members of a group.
 #[derive(Clone, Copy)]
@@ -41,15 +41,15 @@ impl Lot for Heading {
         0
     }
 
-    fn amount(&self, _cells: Cells<'_>, _prices: Prices<'_>, _row: usize) -> i64 {
+    fn amount(&self, _cells: Cells<'_>, _prices: CappedPrices<'_>, _row: usize) -> i64 {
         0
     }
 
-    fn best(&self, _prices: Prices<'_>) -> i64 {
+    fn best(&self, _prices: CappedPrices<'_>) -> i64 {
         0
     }
 
-    fn broken_row(&self, _cells: Cells<'_>, _prices: Prices<'_>) -> Option<usize> {
+    fn broken_row(&self, _cells: Cells<'_>, _prices: CappedPrices<'_>) -> Option<usize> {
         None
     }
 }

@@ -5,7 +5,7 @@ ghost use Rattle.lot.specs.Join.{join};
 ghost use Rattle.lot.specs.Laws.Joins.{settled_always, join_idle, join_greatest, join_unharmed, join_limited};
 
 use lot::lot::{Lot, MOST_LOT_ROWS};
-use lot::views::{Cells, Prices};
+use lot::views::{CappedPrices, Cells};
 
 // As far as rows are counted: one more than a lot that is questioned may have.
 pub const COUNTED: usize = MOST_LOT_ROWS + 1;
@@ -75,7 +75,7 @@ impl<A: Lot, B: Lot> Lot for Joined<A, B> {
         }
     }
 
-    fn amount(&self, cells: Cells<'_>, prices: Prices<'_>, row: usize) -> i64 {
+    fn amount(&self, cells: Cells<'_>, prices: CappedPrices<'_>, row: usize) -> i64 {
         let rows = self.0.row_count();
         if row < rows {
             self.0.amount(front_part(&self.0, cells), prices, row)
@@ -84,11 +84,11 @@ impl<A: Lot, B: Lot> Lot for Joined<A, B> {
         }
     }
 
-    fn best(&self, prices: Prices<'_>) -> i64 {
+    fn best(&self, prices: CappedPrices<'_>) -> i64 {
         self.0.best(prices) + self.1.best(prices)
     }
 
-    fn broken_row(&self, cells: Cells<'_>, prices: Prices<'_>) -> Option<usize> {
+    fn broken_row(&self, cells: Cells<'_>, prices: CappedPrices<'_>) -> Option<usize> {
         if let Some(broken) = self.0.broken_row(front_part(&self.0, cells), prices) {
             return Some(broken);
         }

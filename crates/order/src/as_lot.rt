@@ -3,7 +3,7 @@ ghost use Rattle.order.specs.Laws.Orders.{order_duties};
 
 use crate::order::Order;
 use lot::lot::Lot;
-use lot::views::{Cells, Prices};
+use lot::views::{CappedPrices, Cells};
 
 // An order answers as the lot of its kind.
 impl Lot for Order {
@@ -64,7 +64,7 @@ impl Lot for Order {
         }
     }
 
-    fn amount(&self, cells: Cells<'_>, prices: Prices<'_>, row: usize) -> i64 {
+    fn amount(&self, cells: Cells<'_>, prices: CappedPrices<'_>, row: usize) -> i64 {
         match self {
             Order::Bid(bid) => bid.amount(cells, prices, row),
             Order::Group(group) => group.amount(cells, prices, row),
@@ -73,7 +73,7 @@ impl Lot for Order {
         }
     }
 
-    fn best(&self, prices: Prices<'_>) -> i64 {
+    fn best(&self, prices: CappedPrices<'_>) -> i64 {
         match self {
             Order::Bid(bid) => bid.best(prices),
             Order::Group(group) => group.best(prices),
@@ -82,7 +82,7 @@ impl Lot for Order {
         }
     }
 
-    fn broken_row(&self, cells: Cells<'_>, prices: Prices<'_>) -> Option<usize> {
+    fn broken_row(&self, cells: Cells<'_>, prices: CappedPrices<'_>) -> Option<usize> {
         match self {
             Order::Bid(bid) => bid.broken_row(cells, prices),
             Order::Group(group) => group.broken_row(cells, prices),

@@ -8,7 +8,7 @@ use crate::orders::Orders;
 use crate::sealed_book::SealedBook;
 use joined::chained::Chained;
 use lot::lot::Lot;
-use lot::views::{Cells, Prices};
+use lot::views::{CappedPrices, Cells};
 
 impl<'a> SealedBook<'a> {
     // The orders of the book, one after another.
@@ -53,15 +53,15 @@ impl<'a> Lot for SealedBook<'a> {
         self.orders().worth(cells, row)
     }
 
-    fn amount(&self, cells: Cells<'_>, prices: Prices<'_>, row: usize) -> i64 {
+    fn amount(&self, cells: Cells<'_>, prices: CappedPrices<'_>, row: usize) -> i64 {
         self.orders().amount(cells, prices, row)
     }
 
-    fn best(&self, prices: Prices<'_>) -> i64 {
+    fn best(&self, prices: CappedPrices<'_>) -> i64 {
         self.orders().best(prices)
     }
 
-    fn broken_row(&self, cells: Cells<'_>, prices: Prices<'_>) -> Option<usize> {
+    fn broken_row(&self, cells: Cells<'_>, prices: CappedPrices<'_>) -> Option<usize> {
         self.orders().broken_row(cells, prices)
     }
 }

@@ -21,9 +21,9 @@ fn single_order(row: Row) -> Order
     ensures { (rs : List RowOf) → Parted (book_meaning (row ∷ rs)) (order_meaning result) (book_meaning rs) }
 {
     let made = match row {
-        Row::Bid(fields) => Bid::of(fields).map(Order::Bid),
-        Row::Need(fields) => Need::of(fields).map(Order::Need),
-        Row::Border(fields) => Border::of(fields).map(Order::Border),
+        Row::Bid(fields) => Bid::try_from(fields).map(Order::Bid),
+        Row::Need(fields) => Need::try_from(fields).map(Order::Need),
+        Row::Border(fields) => Border::try_from(fields).map(Order::Border),
         Row::Group(_) => unreachable(),
     };
     let Ok(order) = made else { unreachable() };

@@ -21,7 +21,7 @@ impl<'a> Rows<'a> {
             unreachable()
         };
         let Row::Bid(fields) = row else { unreachable() };
-        let Ok(bid) = Bid::of(fields) else {
+        let Ok(bid) = Bid::try_from(fields) else {
             unreachable()
         };
         (bid, after)

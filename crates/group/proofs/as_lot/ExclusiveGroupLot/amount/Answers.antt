@@ -9,7 +9,7 @@ pub amount-requires : goal.amount-requires
 amount-requires c =
     let x = c.args.self.now in
     let k = c.args.cells.bytes.now in
-    record { ready = ready_rows (take x.size.members x.members) _ c.rows.ensures k c.requires.ready; priced = c.requires.priced; row = row_below (take x.size.members x.members) _ c.rows.ensures k c.args.row c.requires.row }
+    record { ready = ready_rows (take x.size.members x.members) _ c.rows.ensures k c.requires.ready; row = row_below (take x.size.members x.members) _ c.rows.ensures k c.args.row c.requires.row }
 
 pub returns : goal.returns
 returns c =

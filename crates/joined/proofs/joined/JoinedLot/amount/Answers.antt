@@ -10,13 +10,13 @@ pub front_part-requires : goal.front_part-requires
 front_part-requires g c = asks (both g.A.Lot g.B.Lot c.args.self.now.0 c.args.self.now.1) c.requires.ready.sized
 
 pub amount-requires : goal.amount-requires
-amount-requires g c = record { ready = first_ready (both g.A.Lot g.B.Lot c.args.self.now.0 c.args.self.now.1) c.front_part.ensures c.requires.ready; priced = c.requires.priced; row = omega arith }
+amount-requires g c = record { ready = first_ready (both g.A.Lot g.B.Lot c.args.self.now.0 c.args.self.now.1) c.front_part.ensures c.requires.ready; row = omega arith }
 
 pub rest_part-requires : goal.rest_part-requires
 rest_part-requires g c = asks (both g.A.Lot g.B.Lot c.args.self.now.0 c.args.self.now.1) c.requires.ready.sized
 
 pub amount-requires-else-row-rows : goal.amount-requires-else-row-rows
-amount-requires-else-row-rows g c = record { ready = next_ready (both g.A.Lot g.B.Lot c.args.self.now.0 c.args.self.now.1) c.rest_part.ensures c.requires.ready; priced = c.requires.priced; row = let few = c.requires.ready.sized.few in omega arith }
+amount-requires-else-row-rows g c = record { ready = next_ready (both g.A.Lot g.B.Lot c.args.self.now.0 c.args.self.now.1) c.rest_part.ensures c.requires.ready; row = let few = c.requires.ready.sized.few in omega arith }
 
 pub returns-then-row-rows : goal.returns-then-row-rows
 returns-then-row-rows g c = to_z-of_z w64 c.amount.result (search rules) ∙ c.amount.ensures

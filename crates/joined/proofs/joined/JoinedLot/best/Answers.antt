@@ -13,12 +13,12 @@ overflow_add-result g c =
     let p = table_of c.args.prices.bytes.now in
     let d = duties_of g.A.Lot c.args.self.now.0 in
     let e = duties_of g.B.Lot c.args.self.now.1 in
-    let quoted = priced_quoted c.args.prices.bytes.now c.requires.priced in
+    let quoted = priced_quoted c.args.prices.bytes.now c.args.prices.priced in
     let few = c.requires.few in
     let low-m = best_low m d (omega arith) p quoted in
     let low-n = best_low n e (omega arith) p quoted in
-    let high-m = (d.limited (omega arith)).best p quoted c.requires.priced.capped in
-    let high-n = (e.limited (omega arith)).best p quoted c.requires.priced.capped in
+    let high-m = (d.limited (omega arith)).best p quoted c.args.prices.priced.capped in
+    let high-n = (e.limited (omega arith)).best p quoted c.args.prices.priced.capped in
     omega (arith, ints)
 
 pub returns : goal.returns

@@ -17,12 +17,12 @@ unreachable-requires c =
     let l = ap length c.in_default.ensures in
     absurd (omega arith)
 
-pub unreachable-requires-in_default-of : goal.unreachable-requires-in_default-of
-unreachable-requires-in_default-of c =
+pub unreachable-requires-in_default-try_from : goal.unreachable-requires-in_default-try_from
+unreachable-requires-in_default-try_from c =
     let x = c.args.self in
     let f = c.in-Bid.fields in
     let law : lawful_row c.in-Some.row ≡ true = lawful_first c.in-Some.row _ (ap lawful_rows (sym c.in-Some.ensures.ahead) ∙ x.lawful) in
-    refused_lawful _ (is_area f.area) (bid_fine f.quarters) f (c.in_default-of.ensures 0) (ap lawful_row (sym c.in-Bid.is) ∙ law)
+    refused_lawful _ (is_area f.area) (bid_fine f.quarters) f (c.in_default-try_from.ensures 0) (ap lawful_row (sym c.in-Bid.is) ∙ law)
 
 pub returns : goal.returns
 returns c =
