@@ -1,6 +1,4 @@
-use byte_layer::number::{
-    read_i32, read_i64, read_u16, read_u32, write_i32, write_i64, write_u16, write_u32,
-};
+use byte_layer::number::{read, write};
 
 // Texts, and the numbers in them, one behind the other up to the text's end: unsigned ones of two and four bytes, and
 // signed ones of four and eight.
@@ -22,21 +20,16 @@ const NUMBERS: [(&[u8; 18], (u16, u32, i32, i64)); 5] = [
 ];
 
 fn read_all(text: &[u8; 18]) -> (u16, u32, i32, i64) {
-    (
-        read_u16(text, 0),
-        read_u32(text, 2),
-        read_i32(text, 6),
-        read_i64(text, 10),
-    )
+    (read(text, 0), read(text, 2), read(text, 6), read(text, 10))
 }
 
 fn write_all(numbers: (u16, u32, i32, i64)) -> [u8; 18] {
     let (a, b, c, d) = numbers;
     let mut text = [0x55; 18];
-    write_u16(&mut text, 0, a);
-    write_u32(&mut text, 2, b);
-    write_i32(&mut text, 6, c);
-    write_i64(&mut text, 10, d);
+    write(&mut text, 0, a);
+    write(&mut text, 2, b);
+    write(&mut text, 6, c);
+    write(&mut text, 10, d);
     text
 }
 

@@ -1,3 +1,5 @@
+ghost use Rattle.std.specs.Iterator.{IsFinite};
+
 use crate::spelled::{side_byte, spell_row, told};
 use crate::writing::Writing;
 use bid::fields::{BidFields, BidQuarter};
@@ -141,23 +143,31 @@ fn texts_opened(rt: HostRuntime) {
     assert_eq!(rt; opened(&[0x45, 2, 0x53]), (1, 0, true));
 }
 
-// The rows of a text's sealed book, from the first to the last, spelled again.
-fn spelled_again(heap: Global, text: &[u8]) -> Result<Vec<u8>, AllocError> {
-    let book = SealedBook::open(text);
+// Rows, spelled again behind one another, and the seal.
+fn spelled_again<I: Iterator<Item = Row> + Drop>(
+    heap: Global,
+    rows: I,
+) -> Result<Vec<u8>, AllocError>
+    requires can { I.can_next rows }
+    requires ends { IsFinite (I.remaining rows) }
+{
     let mut again = Vec::new(heap);
-    for i in 0..book.rows() {
-        if let Some(row) = book.row(i) {
-            spell_row(&mut again, row)?;
-        }
+    for row in rows {
+        spell_row(&mut again, row)?;
     }
     again.push(0x53)?;
     Ok(again)
 }
 
-// What is read of every row spells the bytes that it was read from.
+// What is read of every row spells the bytes that it was read from, whether the rows are gone over or asked for by their
+// numbers.
 #[test]
 fn rows_of_a_sealed_book(rt: HostRuntime) -> Result<(), Fail> {
-    let again = spelled_again(rt.alloc(), BOOK)?;
+    let book = SealedBook::open(BOOK);
+    let again = spelled_again(rt.alloc(), book.iter())?;
+    assert!(rt; again.as_slice() == BOOK.as_slice());
+    let numbered = (0..book.rows()).filter_map(|i| book.row(i));
+    let again = spelled_again(rt.alloc(), numbered)?;
     assert!(rt; again.as_slice() == BOOK.as_slice());
     Ok(())
 }

@@ -4,7 +4,7 @@ use book::row::Row;
 use std::alloc::Global;
 use std::process::Abort;
 use std::test::Fail;
-use writer::state::{Begun, GroupUnderway, Joined, Membership, OpenBook, Refused};
+use writer::state::{GroupUnderway, Membership, OpenBook};
 
 // A book that is being written, with a group underway or none. Where it is let go, the group is struck.
 pub enum Writing {
@@ -25,16 +25,16 @@ impl Drop for Writing {
 
 fn file_in(book: OpenBook, text: &mut [u8], row: Row) -> (Writing, Result<usize, Fault>) {
     let filed = match row {
-        Row::Bid(fields) => book.bid(text, fields),
-        Row::Need(fields) => book.need(text, fields),
-        Row::Border(fields) => book.border(text, fields),
+        Row::Bid(fields) => book.file(text, fields),
+        Row::Need(fields) => book.file(text, fields),
+        Row::Border(fields) => book.file(text, fields),
         Row::Group(members) => match book.group(text, members) {
-            Ok(Begun { group, row }) => return (Writing::Underway(group), Ok(row)),
+            Ok(begun) => return (Writing::Underway(begun.next), Ok(begun.row)),
             Err(refused) => Err(refused),
         },
     };
     match filed {
-        Ok(filed) => (Writing::Open(filed.book), Ok(filed.row)),
+        Ok(filed) => (Writing::Open(filed.next), Ok(filed.row)),
         Err(refused) => (Writing::Open(refused.back), Err(told(refused.fault))),
     }
 }
@@ -44,19 +44,11 @@ fn join(group: GroupUnderway, text: &mut [u8], row: Row) -> (Writing, Result<usi
         return file_in(group.strike(), text, row);
     };
     match group.member(text, fields) {
-        Ok(
-            Joined {
-                then: Membership::More(group),
-                row,
-            },
-        ) => (Writing::Underway(group), Ok(row)),
-        Ok(
-            Joined {
-                then: Membership::Last(book),
-                row,
-            },
-        ) => (Writing::Open(book), Ok(row)),
-        Err(Refused { back, fault }) => (Writing::Underway(back), Err(told(fault))),
+        Ok(filed) => match filed.next {
+            Membership::More(group) => (Writing::Underway(group), Ok(filed.row)),
+            Membership::Last(book) => (Writing::Open(book), Ok(filed.row)),
+        },
+        Err(refused) => (Writing::Underway(refused.back), Err(told(refused.fault))),
     }
 }
 

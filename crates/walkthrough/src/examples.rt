@@ -11,7 +11,7 @@ use border::step::Step;
 use need::elasticity::Elasticity;
 use need::fields::{NeedFields, NeedQuarter};
 use units::side::Side;
-use writer::state::{Begun, Joined, Membership, OpenBook, Refused};
+use writer::state::{GroupUnderway, Membership, OpenBook, Refused};
 
 pub(crate) const NO_BID: BidQuarter = BidQuarter {
     minimum: 0,
@@ -109,9 +109,18 @@ pub(crate) fn small_book(
 ) -> Result<usize, Refused<OpenBook>>
     ensures { IfOk result (λ n. (checked text.new ≡ Ok (record { length = n; rows = 2 })) × (rows_in text.new ≡ kind.Bid bid ∷ kind.Need need ∷ [])) }
 {
-    let filed = OpenBook::start().bid(text, bid)?;
-    let filed = filed.book.need(text, need)?;
-    filed.book.seal(text)
+    let filed = OpenBook::start().file(text, bid)?;
+    let filed = filed.next.file(text, need)?;
+    filed.next.seal(text)
+}
+
+// A group whose member was refused is struck.
+fn struck(refused: Refused<GroupUnderway>) -> Refused<OpenBook> {
+    let Refused { back, fault } = refused;
+    Refused {
+        back: back.strike(),
+        fault,
+    }
 }
 
 // An exclusive group of two bids behind what a book holds. Where a member is refused the group is struck.
@@ -123,47 +132,27 @@ fn pair(
 ) -> Result<OpenBook, Refused<OpenBook>>
     ensures { IfOk result (λ b. (rs : List Row) → Holds text.old book rs → Holds text.new b (rs ++ kind.Group 2 ∷ kind.Bid first ∷ kind.Bid second ∷ [])) }
 {
-    let Begun { group, row: _ } = book.group(text, 2)?;
-    let group = match group.member(text, first) {
-        Ok(
-            Joined {
-                then: Membership::More(group),
-                row: _,
-            },
-        ) => group,
-        Ok(
-            Joined {
-                then: Membership::Last(back),
-                row,
-            },
-        ) => return Err(Refused {
+    let begun = book.group(text, 2)?;
+    let filed = match begun.next.member(text, first) {
+        Ok(filed) => filed,
+        Err(refused) => return Err(struck(refused)),
+    };
+    let group = match filed.next {
+        Membership::More(group) => group,
+        Membership::Last(back) => return Err(Refused {
             back,
-            fault: BookFault::Member(row),
-        }),
-        Err(Refused { back, fault }) => return Err(Refused {
-            back: back.strike(),
-            fault,
+            fault: BookFault::Member(filed.row),
         }),
     };
-    match group.member(text, second) {
-        Ok(
-            Joined {
-                then: Membership::More(group),
-                row,
-            },
-        ) => Err(Refused {
+    let filed = match group.member(text, second) {
+        Ok(filed) => filed,
+        Err(refused) => return Err(struck(refused)),
+    };
+    match filed.next {
+        Membership::Last(book) => Ok(book),
+        Membership::More(group) => Err(Refused {
             back: group.strike(),
-            fault: BookFault::Member(row),
-        }),
-        Ok(
-            Joined {
-                then: Membership::Last(book),
-                row: _,
-            },
-        ) => Ok(book),
-        Err(Refused { back, fault }) => Err(Refused {
-            back: back.strike(),
-            fault,
+            fault: BookFault::Member(filed.row),
         }),
     }
 }
@@ -179,9 +168,9 @@ pub(crate) fn large_book(
 ) -> Result<usize, Refused<OpenBook>>
     ensures { IfOk result (λ n. (checked text.new ≡ Ok (record { length = n; rows = 6 })) × (rows_in text.new ≡ kind.Need need ∷ kind.Border border ∷ kind.Bid bid ∷ kind.Group 2 ∷ kind.Bid first ∷ kind.Bid second ∷ [])) }
 {
-    let filed = OpenBook::start().need(text, need)?;
-    let filed = filed.book.border(text, border)?;
-    let filed = filed.book.bid(text, bid)?;
-    let book = pair(filed.book, text, first, second)?;
+    let filed = OpenBook::start().file(text, need)?;
+    let filed = filed.next.file(text, border)?;
+    let filed = filed.next.file(text, bid)?;
+    let book = pair(filed.next, text, first, second)?;
     book.seal(text)
 }

@@ -1,25 +1,18 @@
 use crate::examples::{block_bid, small_bid, small_need, wide_border};
-use crate::show;
+use crate::show::told;
 use bid::fields::BidFields;
 use book::check::check;
 use book::fault::BookFault;
 use std::alloc::Global;
 use std::io;
-use writer::state::{Begun, GroupUnderway, Joined, Membership, OpenBook, Refused};
+use writer::state::{GroupUnderway, Membership, OpenBook, Refused};
 
 // What a check says of a text that it should refuse.
 fn checked(rt: &impl Print, what: &str, text: &[u8]) -> io::Result<()> {
     match check(text) {
-        Ok(found) => {
-            let length = found.length;
-            println!(rt; "  {what}: passed with {length} bytes")
-        }
-        Err(fault) => show::told(rt, what, fault.tell()),
+        Ok(found) => println!(rt; "  {what}: passed with {} bytes", found.length),
+        Err(fault) => told(rt, what, fault),
     }
-}
-
-fn refused(rt: &impl Print, what: &str, fault: BookFault) -> io::Result<()> {
-    show::told(rt, what, fault.tell())
 }
 
 // 11 and 12: what the bytes of a text alone have wrong.
@@ -39,9 +32,9 @@ pub(crate) fn of_members(rt: &impl Print) -> io::Result<()> {
 
 fn bid_refused(rt: &impl Print, what: &str, fields: BidFields) -> io::Result<()> {
     let mut text = [0u8; 64];
-    match OpenBook::start().bid(&mut text, fields) {
+    match OpenBook::start().file(&mut text, fields) {
         Ok(_filed) => println!(rt; "  {what}: filed"),
-        Err(back) => refused(rt, what, back.fault),
+        Err(back) => told(rt, what, back.fault),
     }
 }
 
@@ -54,9 +47,9 @@ pub(crate) fn of_fields(rt: &impl Print) -> io::Result<()> {
     let mut text = [0u8; 64];
     let mut border = wide_border();
     border.to = border.from;
-    match OpenBook::start().border(&mut text, border) {
+    match OpenBook::start().file(&mut text, border) {
         Ok(_filed) => println!(rt; "  a border to itself: filed"),
-        Err(back) => refused(rt, "a border to itself", back.fault),
+        Err(back) => told(rt, "a border to itself", back.fault),
     }
 }
 
@@ -64,46 +57,30 @@ pub(crate) fn of_fields(rt: &impl Print) -> io::Result<()> {
 pub(crate) fn of_groups(rt: &impl Print) -> io::Result<()> {
     let mut text = [0u8; 160];
     let group = match OpenBook::start().group(&mut text, 2) {
-        Ok(Begun { group, row: _ }) => group,
-        Err(back) => return refused(rt, "a group", back.fault),
+        Ok(begun) => begun.next,
+        Err(refused) => return told(rt, "a group", refused.fault),
     };
     match group.member(&mut text, block_bid(3)) {
-        Ok(
-            Joined {
-                then: Membership::More(group),
-                row: _,
-            },
-        ) => second_member(rt, &mut text, group),
-        Ok(
-            Joined {
-                then: Membership::Last(_book),
-                row: _,
-            },
-        ) => Ok(()),
+        Ok(filed) => match filed.next {
+            Membership::More(group) => second_member(rt, &mut text, group),
+            Membership::Last(_book) => Ok(()),
+        },
         Err(Refused { back, fault }) => {
             let _book = back.strike();
-            refused(rt, "a member", fault)
+            told(rt, "a member", fault)
         }
     }
 }
 
 fn second_member(rt: &impl Print, text: &mut [u8], group: GroupUnderway) -> io::Result<()> {
     match group.member(text, block_bid(4)) {
-        Ok(
-            Joined {
-                then: Membership::More(group),
-                row: _,
-            },
-        ) => {
-            let _book = group.strike();
+        Ok(filed) => {
+            let _book = match filed.next {
+                Membership::More(group) => group.strike(),
+                Membership::Last(book) => book,
+            };
             println!(rt; "  a member of another area: filed")
         }
-        Ok(
-            Joined {
-                then: Membership::Last(_book),
-                row: _,
-            },
-        ) => { println!(rt; "  a member of another area: filed") }
         Err(Refused { back, fault }) => struck(rt, text, back, fault),
     }
 }
@@ -115,23 +92,23 @@ fn struck(
     fault: BookFault,
 ) -> io::Result<()> {
     let book = group.strike();
-    refused(rt, "a member of another area", fault)?;
+    told(rt, "a member of another area", fault)?;
     match book.seal(text) {
         Ok(length) => println!(rt; "  the group struck, and the book sealed: {length} byte"),
-        Err(back) => refused(rt, "a seal", back.fault),
+        Err(back) => told(rt, "a seal", back.fault),
     }
 }
 
 // 26: a text too short for the next command.
 pub(crate) fn of_room(rt: &impl Print) -> io::Result<()> {
     let mut text = [0u8; 86];
-    let book = match OpenBook::start().bid(&mut text, small_bid()) {
-        Ok(filed) => filed.book,
-        Err(back) => return refused(rt, "a bid in 86 bytes", back.fault),
+    let book = match OpenBook::start().file(&mut text, small_bid()) {
+        Ok(filed) => filed.next,
+        Err(back) => return told(rt, "a bid in 86 bytes", back.fault),
     };
-    match book.need(&mut text, small_need()) {
+    match book.file(&mut text, small_need()) {
         Ok(_filed) => println!(rt; "  a need in the 35 bytes left: filed"),
-        Err(back) => refused(rt, "a need in the 35 bytes left", back.fault),
+        Err(back) => told(rt, "a need in the 35 bytes left", back.fault),
     }
 }
 
@@ -141,21 +118,21 @@ pub(crate) fn of_rows(rt: &impl Print, heap: Global) -> anyhow::Result<()> {
     let text = space.as_mut_slice();
     let mut book = OpenBook::start();
     for _row in 0..1_024 {
-        match book.border(text, wide_border()) {
-            Ok(filed) => book = filed.book,
+        match book.file(text, wide_border()) {
+            Ok(filed) => book = filed.next,
             Err(back) => {
-                refused(rt, "a border", back.fault)?;
+                told(rt, "a border", back.fault)?;
                 return Ok(());
             }
         }
     }
-    match book.border(text, wide_border()) {
+    match book.file(text, wide_border()) {
         Ok(_filed) => println!(rt; "  row 1,025: filed")?,
         Err(back) => {
-            refused(rt, "row 1,025", back.fault)?;
+            told(rt, "row 1,025", back.fault)?;
             match back.back.seal(text) {
                 Ok(length) => println!(rt; "  the full book sealed: {length} bytes, 1,024 rows")?,
-                Err(back) => refused(rt, "a seal", back.fault)?,
+                Err(back) => told(rt, "a seal", back.fault)?,
             }
         }
     }

@@ -1,12 +1,10 @@
 use bid::fields::{BidFields, BidQuarter};
+use book::fault::BookFault;
 use book::row::Row;
 use border::fields::{BorderFields, BorderQuarter};
-use border::step::Step;
-use byte_layer::fault::{Layer, Told};
 use need::elasticity::Elasticity;
 use need::fields::{NeedFields, NeedQuarter};
 use std::{fmt, io};
-use units::side::Side;
 
 // A quantity in MW with one decimal; it counts units of 0.1 MW.
 #[derive(Clone, Copy)]
@@ -34,50 +32,20 @@ impl fmt::Display for Euros {
     }
 }
 
-pub(crate) fn side_name(side: Side) -> &'static str {
-    match side {
-        Side::Upward => "upward",
-        Side::Downward => "downward",
-    }
-}
-
-pub(crate) fn elasticity_name(elasticity: Elasticity) -> &'static str {
-    match elasticity {
-        Elasticity::Elastic => "elastic",
-        Elasticity::Inelastic => "inelastic",
-    }
-}
-
-pub(crate) fn step_quarters(step: Step) -> u8 {
-    step.byte()
-}
-
-pub(crate) fn layer_name(layer: Layer) -> &'static str {
-    match layer {
-        Layer::Bytes => "bytes",
-        Layer::Book => "book",
-        Layer::Page => "page",
-        Layer::Market => "market",
-        Layer::Gate => "gate",
-        Layer::Annex => "annex",
-    }
-}
-
-pub(crate) fn told(rt: &impl Print, what: &str, told: Told) -> io::Result<()> {
-    let number = told.number;
-    let layer = layer_name(told.layer);
-    let place = told.place;
-    println!(rt; "  {what}: {number}, layer {layer}, place {place}")
+pub(crate) fn told(rt: &impl Print, what: &str, fault: BookFault) -> io::Result<()> {
+    println!(rt; "  {what}: {fault}")
 }
 
 fn bid_quarter(rt: &impl Print, number: usize, q: BidQuarter) -> io::Result<()> {
     if q.maximum == 0 {
         return Ok(());
     }
-    let low = Megawatts(q.minimum);
-    let high = Megawatts(q.maximum);
-    let price = Euros(q.price);
-    println!(rt; "      quarter {number}: {low} to {high} at {price}")
+    println!(rt;
+        "      quarter {number}: {} to {} at {}",
+        Megawatts(q.minimum),
+        Megawatts(q.maximum),
+        Euros(q.price)
+    )
 }
 
 fn need_quarter(
@@ -90,23 +58,30 @@ fn need_quarter(
         return Ok(());
     }
     let high = Megawatts(q.maximum);
-    let price = Euros(q.price);
     match elasticity {
-        Elasticity::Elastic => println!(rt; "      quarter {number}: up to {high} at {price}"),
+        Elasticity::Elastic => {
+            println!(rt;
+                "      quarter {number}: up to {high} at {}",
+                Euros(q.price)
+            )
+        }
         Elasticity::Inelastic => println!(rt; "      quarter {number}: up to {high} at any price"),
     }
 }
 
 fn border_quarter(rt: &impl Print, number: usize, q: BorderQuarter) -> io::Result<()> {
-    let forward = Megawatts(q.forward);
-    let back = Megawatts(q.back);
-    println!(rt; "      quarter {number}: {forward} forward, {back} back")
+    println!(rt;
+        "      quarter {number}: {} forward, {} back",
+        Megawatts(q.forward),
+        Megawatts(q.back)
+    )
 }
 
 fn bid(rt: &impl Print, number: usize, fields: &BidFields) -> io::Result<()> {
-    let side = side_name(fields.side);
-    let area = fields.area;
-    println!(rt; "    row {number}: {side} bid in area {area}")?;
+    println!(rt;
+        "    row {number}: {} bid in area {}",
+        fields.side, fields.area
+    )?;
     for (k, q) in fields.quarters.iter().enumerate() {
         bid_quarter(rt, k, *q)?;
     }
@@ -114,10 +89,10 @@ fn bid(rt: &impl Print, number: usize, fields: &BidFields) -> io::Result<()> {
 }
 
 fn need(rt: &impl Print, number: usize, fields: &NeedFields) -> io::Result<()> {
-    let elasticity = elasticity_name(fields.elasticity);
-    let side = side_name(fields.side);
-    let area = fields.area;
-    println!(rt; "    row {number}: {elasticity} {side} need in area {area}")?;
+    println!(rt;
+        "    row {number}: {} {} need in area {}",
+        fields.elasticity, fields.side, fields.area
+    )?;
     for (k, q) in fields.quarters.iter().enumerate() {
         need_quarter(rt, k, fields.elasticity, *q)?;
     }
@@ -125,11 +100,9 @@ fn need(rt: &impl Print, number: usize, fields: &NeedFields) -> io::Result<()> {
 }
 
 fn border(rt: &impl Print, number: usize, fields: &BorderFields) -> io::Result<()> {
-    let from = fields.from;
-    let to = fields.to;
-    let step = step_quarters(fields.step);
     println!(rt;
-        "    row {number}: border from area {from} to area {to}, flow constant over {step} quarters"
+        "    row {number}: border from area {} to area {}, flow constant over {} quarters",
+        fields.from, fields.to, fields.step
     )?;
     for (k, q) in fields.quarters.iter().enumerate() {
         border_quarter(rt, k, *q)?;

@@ -11,20 +11,12 @@ use writer::state::{OpenBook, Refused};
 // Checks a text, opens it as a sealed book, and reads it row by row.
 fn read_back(rt: &impl Print, text: &[u8]) -> io::Result<()> {
     match check(text) {
-        Ok(found) => {
-            let length = found.length;
-            let rows = found.rows;
-            println!(rt; "  checked: {length} bytes, {rows} rows")?;
-        }
-        Err(fault) => show::told(rt, "checked", fault.tell())?,
+        Ok(found) => println!(rt; "  checked: {} bytes, {} rows", found.length, found.rows)?,
+        Err(fault) => show::told(rt, "checked", fault)?,
     }
-    let book = SealedBook::open(text);
-    let rows = book.rows();
     println!(rt; "  opened, and read row by row:")?;
-    for number in 0..rows {
-        if let Some(row) = book.row(number) {
-            show::row(rt, number, row)?;
-        }
+    for (number, row) in SealedBook::open(text).iter().enumerate() {
+        show::row(rt, number, row)?;
     }
     Ok(())
 }
@@ -39,7 +31,7 @@ fn written(
             println!(rt; "  written and sealed: {length} bytes")?;
             read_back(rt, text)
         }
-        Err(refused) => show::told(rt, "refused", refused.fault.tell()),
+        Err(refused) => show::told(rt, "refused", refused.fault),
     }
 }
 
@@ -61,9 +53,7 @@ pub(crate) fn tour(rt: &impl Print, heap: Global) -> anyhow::Result<()> {
     written(rt, &large, outcome)?;
     println!(rt; "A text that fails its check is the book of no rows")?;
     let none = SealedBook::open(b"no book");
-    let rows = none.rows();
-    let length = none.length();
-    println!(rt; "  opened: {length} byte, {rows} rows")?;
+    println!(rt; "  opened: {} byte, {} rows", none.length(), none.rows())?;
     println!(rt; "Refusals, each told by number, layer and place")?;
     refusals::of_bytes(rt, &small[0..88])?;
     refusals::of_members(rt)?;
