@@ -16,7 +16,7 @@ use Rattle.book.specs.declared.stand.Stand.{Stand}
 use Rattle.book.specs.Fault.{most_rows}
 use Rattle.book.specs.Command.{command_size, command_for, command_at, whole, is_bid, is_seal}
 use Rattle.book.specs.Rows.{rowed, row_read, row_size}
-use Rattle.book.specs.Stands.{fresh, onward, member_on, group_on, closed, after}
+use Rattle.book.specs.Stands.{due_of, row_of, same_of, fresh, onward, member_on, group_on, closed, after}
 use Rattle.book.specs.Reading.{step_taken, step_row, step_command, step_of, push, ends, stepped, read_rows}
 
 -- a test that came out one way or the other
@@ -71,12 +71,12 @@ after_at s (kind.Bid b) r n e =
     let next = member_on s b.area in
     let last = fresh (s.at + 51) (s.rows + 1) in
     let row = kind.Bid b in
-    cond_case (eqb s.due 0) (Ok (Some (row, onward s row))) (closed row next) (Ok (Some (r, n))) e
+    cond_case (eqb (due_of s) 0) (Ok (Some (row, onward s row))) (closed row next) (Ok (Some (r, n))) e
     (λ _ p. stepped_at s (onward s row) row r n refl refl p)
-    (λ _ p. cond_case (eqb next.due 0) (cond next.same (Ok (Some (row, last))) (Err (fault 25 s.group))) (Ok (Some (row, next))) (Ok (Some (r, n))) p
-    (λ _ x. cond_case next.same (Ok (Some (row, last))) (Err (fault 25 s.group)) (Ok (Some (r, n))) x
+    (λ _ p. cond_case (eqb (due_of next) 0) (cond (same_of next) (Ok (Some (row, last))) (Err (fault 25 (row_of s)))) (Ok (Some (row, next))) (Ok (Some (r, n))) p
+    (λ _ x. cond_case (same_of next) (Ok (Some (row, last))) (Err (fault 25 (row_of s))) (Ok (Some (r, n))) x
     (λ _ y. stepped_at s last row r n refl refl y)
-    (λ _ y. no_err (fault 25 s.group) (Some (r, n)) y))
+    (λ _ y. no_err (fault 25 (row_of s)) (Some (r, n)) y))
     (λ _ x. stepped_at s next row r n refl refl x))
 after_at s (kind.Group k) r n e = stepped_at s (group_on s k) (kind.Group k) r n refl refl e
 after_at s (kind.Need k) r n e = stepped_at s (onward s (kind.Need k)) (kind.Need k) r n refl refl e
@@ -86,7 +86,7 @@ after_at s (kind.Border k) r n e = stepped_at s (onward s (kind.Border k)) (kind
 pub record Took (s : Stand) (t : List ℕ) (r : Row) (n : Stand) : Type 0 where
   pub command : Command
   pub whole : command_at s.at t ≡ Ok command
-  pub due : (ltb 0 s.due && not (is_bid command)) ≡ false
+  pub due : (ltb 0 (due_of s) && not (is_bid command)) ≡ false
   pub few : leb most_rows s.rows ≡ false
   pub row : row_read command s.rows t ≡ Ok (Some r)
   pub next : after s r ≡ Ok (Some (r, n))
@@ -99,7 +99,7 @@ taken_took s (Ok (Some q)) r n e = let z = after_at s q r n e in (ap (λ (x : Ro
 command_took : (s : Stand) (t : List ℕ) (x : Result Command Told) → command_at s.at t ≡ x → (r : Row) (n : Stand) → step_command s t x ≡ Ok (Some (r, n)) → Took s t r n
 command_took s t (Err x) h r n e = no_err x (Some (r, n)) e
 command_took s t (Ok k) h r n e =
-    cond_case (ltb 0 s.due && not (is_bid k)) (Err (fault 21 s.rows)) (step_row s t k) (Ok (Some (r, n))) e
+    cond_case (ltb 0 (due_of s) && not (is_bid k)) (Err (fault 21 s.rows)) (step_row s t k) (Ok (Some (r, n))) e
     (λ _ p. no_err (fault 21 s.rows) (Some (r, n)) p)
     (λ d p. cond_case (is_seal k) (Ok None) (cond (leb most_rows s.rows) (Err (fault 22 most_rows)) (step_taken s (row_read k s.rows t))) (Ok (Some (r, n))) p
     (λ _ q. no_none (r, n) q)
@@ -128,12 +128,12 @@ after_some s (kind.Bid b) e =
     let next = member_on s b.area in
     let last = fresh (s.at + 51) (s.rows + 1) in
     let row = kind.Bid b in
-    cond_case (eqb s.due 0) (Ok (Some (row, onward s row))) (closed row next) (Ok None) e
+    cond_case (eqb (due_of s) 0) (Ok (Some (row, onward s row))) (closed row next) (Ok None) e
     (λ _ p. some_none (row, onward s row) p)
-    (λ _ p. cond_case (eqb next.due 0) (cond next.same (Ok (Some (row, last))) (Err (fault 25 s.group))) (Ok (Some (row, next))) (Ok None) p
-    (λ _ x. cond_case next.same (Ok (Some (row, last))) (Err (fault 25 s.group)) (Ok None) x
+    (λ _ p. cond_case (eqb (due_of next) 0) (cond (same_of next) (Ok (Some (row, last))) (Err (fault 25 (row_of s)))) (Ok (Some (row, next))) (Ok None) p
+    (λ _ x. cond_case (same_of next) (Ok (Some (row, last))) (Err (fault 25 (row_of s))) (Ok None) x
     (λ _ y. some_none (row, last) y)
-    (λ _ y. no_err (fault 25 s.group) None y))
+    (λ _ y. no_err (fault 25 (row_of s)) None y))
     (λ _ x. some_none (row, next) x))
 after_some s (kind.Group k) e = some_none (kind.Group k, group_on s k) e
 after_some s (kind.Need k) e = some_none (kind.Need k, onward s (kind.Need k)) e
@@ -160,13 +160,13 @@ taken_none s k t (Ok (Some q)) i h e = after_some s q e
 pub record Ended (s : Stand) (t : List ℕ) : Type 0 where
   pub command : Command
   pub whole : command_at s.at t ≡ Ok command
-  pub due : (ltb 0 s.due && not (is_bid command)) ≡ false
+  pub due : (ltb 0 (due_of s) && not (is_bid command)) ≡ false
   pub seal : is_seal command ≡ true
 
 command_ended : (s : Stand) (t : List ℕ) (x : Result Command Told) → command_at s.at t ≡ x → step_command s t x ≡ Ok None → Ended s t
 command_ended s t (Err x) h e = no_err x None e
 command_ended s t (Ok k) h e =
-    cond_case (ltb 0 s.due && not (is_bid k)) (Err (fault 21 s.rows)) (step_row s t k) (Ok None) e
+    cond_case (ltb 0 (due_of s) && not (is_bid k)) (Err (fault 21 s.rows)) (step_row s t k) (Ok None) e
     (λ _ p. no_err (fault 21 s.rows) None p)
     (λ d p. cond_case (is_seal k) (Ok None) (cond (leb most_rows s.rows) (Err (fault 22 most_rows)) (step_taken s (row_read k s.rows t))) (Ok None) p
     (λ i _. record { command = k; whole = h; due = d; seal = i })

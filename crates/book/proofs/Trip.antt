@@ -30,7 +30,7 @@ use Rattle.book.specs.declared.fault.BookFault.{BookFault}
 use Rattle.book.specs.Fault.{most_rows, told_book}
 use Rattle.book.specs.Command.{command_byte, command_size, command_for, whole, command_at, is_bid, is_seal}
 use Rattle.book.specs.Rows.{command_of, row_size, operands, row_bytes, encode, rowed, row_read, row_judged, Four}
-use Rattle.book.specs.Stands.{begin}
+use Rattle.book.specs.Stands.{due_of, begin}
 use Rattle.book.specs.Reading.{step_of, push, stepped, read_rows, decoded, ends, checked, rows_of, rows_in}
 use Rattle.book.specs.Writing.{Files, Runs, none, more, Begins, Written}
 use Rattle.book.proofs.Steps.{cond_case, no_none, command_size_lem, row_has, after_at, step_took, step_moves, step_ended, reads_on_lem, reads_seal, reads_count, push_ok}
@@ -82,12 +82,12 @@ step_back : (s n : Stand) (r : Row) (t : List ℕ) → Files s r n → step_of s
 unfolding step_of
 step_back s n r t f = rw (command_back r s.at t, f.due, no_seal r, lt-leb most_rows s.rows f.few, row_back s.rows r t f.four f.fine) f.next
 
-seal_back : (s : Stand) (t : List ℕ) → s.due ≡ 0 → step_of s (0x53 ∷ t) ≡ Ok None
+seal_back : (s : Stand) (t : List ℕ) → due_of s ≡ 0 → step_of s (0x53 ∷ t) ≡ Ok None
 unfolding step_of
-seal_back s t e = rw (le-leb 1 (length (0x53 ∷ t)) (omega arith), le-ltb 0 s.due (omega arith))
+seal_back s t e = rw (le-leb 1 (length (0x53 ∷ t)) (omega arith), le-ltb 0 (due_of s) (omega arith))
 
 -- rows that were encoded and sealed are read again, whatever follows
-pub trip : {s n : Stand} {rs : List Row} → Runs s rs n → n.due ≡ 0 → (t : List ℕ) (f : ℕ) → length (encode rs ++ (0x53 ∷ t)) ≤ f → read_rows f s (encode rs ++ (0x53 ∷ t)) ≡ Ok (rs, n)
+pub trip : {s n : Stand} {rs : List Row} → Runs s rs n → due_of n ≡ 0 → (t : List ℕ) (f : ℕ) → length (encode rs ++ (0x53 ∷ t)) ≤ f → read_rows f s (encode rs ++ (0x53 ∷ t)) ≡ Ok (rs, n)
 trip {s} none d t f h = reads_seal f s (0x53 ∷ t) (seal_back s t d) h
 trip {s} {n} (more {m = m} {r = r} {rs = rs} w k) d t f h =
     let u = encode rs ++ (0x53 ∷ t) in
@@ -128,7 +128,7 @@ begins_stays t u s rs a bs w h k e =
     let x : take s.at u ≡ take s.at t = ap (take s.at) e ∙ take-append-le s.at (take a t) rest (omega arith) ∙ take-take s.at a t h in
     record { runs = w.runs; bytes = x ∙ w.bytes; within = omega (arith, ap length e, length-append (take a t) rest, la) }
 
-sealed_reads : (t u : List ℕ) (s : Stand) (rs : List Row) → Begins t s rs → s.due ≡ 0 → u ≡ placed t s.at (0x53 ∷ []) → decoded u ≡ Ok (rs, s)
+sealed_reads : (t u : List ℕ) (s : Stand) (rs : List Row) → Begins t s rs → due_of s ≡ 0 → u ≡ placed t s.at (0x53 ∷ []) → decoded u ≡ Ok (rs, s)
 unfolding decoded
 sealed_reads t u s rs w d e =
     let rest = drop (s.at + 1) t in
@@ -136,7 +136,7 @@ sealed_reads t u s rs w d e =
     ap (λ x. read_rows (length x) begin x) v ∙ trip w.runs d rest (length (encode rs ++ (0x53 ∷ rest))) (omega arith)
 
 -- rows that were written and sealed: the check gives the length and their number, and they are read again
-pub sealed_checks : (t u : List ℕ) (s : Stand) (rs : List Row) → Begins t s rs → s.due ≡ 0 → u ≡ placed t s.at (0x53 ∷ []) → (checked u ≡ Ok (record { length = s.at + 1; rows = length rs })) × (rows_in u ≡ rs)
+pub sealed_checks : (t u : List ℕ) (s : Stand) (rs : List Row) → Begins t s rs → due_of s ≡ 0 → u ≡ placed t s.at (0x53 ∷ []) → (checked u ≡ Ok (record { length = s.at + 1; rows = length rs })) × (rows_in u ≡ rs)
 unfolding checked rows_in decoded
 sealed_checks t u s rs w d e =
     let z = sealed_reads t u s rs w d e in
@@ -217,7 +217,7 @@ bytes_forth s t r n o e =
     let k = step_took s t r n e in
     let h = command_size_lem s.at t k.command k.whole in
     let b = row_forth s.rows k.command t r o h k.row in
-    let f : Files s r n = record { few = leb-false most_rows s.rows k.few; due = subst (λ (c : Command). (ltb 0 s.due && not (is_bid c)) ≡ false) b.same k.due; fine = b.fine; four = b.four; next = k.next } in
+    let f : Files s r n = record { few = leb-false most_rows s.rows k.few; due = subst (λ (c : Command). (ltb 0 (due_of s) && not (is_bid c)) ≡ false) b.same k.due; fine = b.fine; four = b.four; next = k.next } in
     let c : t ≡ command_byte (command_of r) ∷ drop 1 t = command_forth s.at t k.command k.whole ∙ ap (λ (c : Command). command_byte c ∷ drop 1 t) b.same in
     (f, c ∙ ap (λ x. command_byte (command_of r) ∷ x) (sym (take-append-drop (row_size r - 1) (drop 1 t)) ∙ ap (λ x. x ++ drop (row_size r - 1) (drop 1 t)) (sym b.bytes) ∙ ap (λ x. operands r ++ x) (behind r t)))
   where
@@ -230,7 +230,7 @@ record Reads (s : Stand) (t : List ℕ) (rs : List Row) (n : Stand) : Type 0 whe
   pub bytes : t ≡ encode rs ++ (0x53 ∷ rest)
   pub at : n.at ≡ s.at + length (encode rs)
   pub runs : Runs s rs n
-  pub due : n.due ≡ 0
+  pub due : due_of n ≡ 0
 
 pub seal_is : (k : Command) → is_seal k ≡ true → k ≡ command.Seal
 seal_is command.Bid e = let w : ◌≡◌ {A = ℕ} 0 1 = cc in absurd (omega arith)
@@ -250,7 +250,7 @@ ended_reads : (s : Stand) (t : List ℕ) → step_of s t ≡ Ok None → Reads s
 ended_reads s t e =
     let m = step_ended s t e in
     let i = seal_is m.command m.seal in
-    record { rest = drop 1 t; bytes = command_forth s.at t m.command m.whole ∙ ap (λ (c : Command). command_byte c ∷ drop 1 t) i; at = omega arith; runs = none; due = not_due s.due (subst (λ (c : Command). (ltb 0 s.due && not (is_bid c)) ≡ false) i m.due) }
+    record { rest = drop 1 t; bytes = command_forth s.at t m.command m.whole ∙ ap (λ (c : Command). command_byte c ∷ drop 1 t) i; at = omega arith; runs = none; due = not_due (due_of s) (subst (λ (c : Command). (ltb 0 (due_of s) && not (is_bid c)) ≡ false) i m.due) }
 
 row_reads : (s : Stand) (t : List ℕ) (r : Row) (m : Stand) (rs : List Row) (n : Stand) → Octets t → step_of s t ≡ Ok (Some (r, m)) → Reads m (drop (row_size r) t) rs n → Reads s t (r ∷ rs) n
 row_reads s t r m rs n o e i =

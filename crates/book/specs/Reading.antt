@@ -9,7 +9,7 @@ use Rattle.book.specs.declared.stand.Stand.{Stand}
 use Rattle.book.specs.Fault.{most_rows}
 use Rattle.book.specs.Command.{command_at, is_bid, is_seal}
 use Rattle.book.specs.Rows.{row_size, row_read}
-use Rattle.book.specs.Stands.{begin, after}
+use Rattle.book.specs.Stands.{begin, after, due_of}
 
 -- one command, tried in this order: 12, 11 (`command_at`); 21, where a member is due and it is no bid; 22, where
 -- the book has all its rows; 23, 24 (`row_read`); 25 (`after`). It gives the row and where the reader stands then,
@@ -24,7 +24,7 @@ step_row s t k = cond (is_seal k) (Ok None) (cond (nat_le most_rows s.rows) (Err
 
 abbrev pub step_command : Stand → List ℕ → Result Command Told → Result (Option (Row × Stand)) Told
 step_command s t (Err e) = Err e
-step_command s t (Ok k) = cond (nat_lt 0 s.due && not (is_bid k)) (Err (fault 21 s.rows)) (step_row s t k)
+step_command s t (Ok k) = cond (nat_lt 0 (due_of s) && not (is_bid k)) (Err (fault 21 s.rows)) (step_row s t k)
 
 unfoldable pub step_of : Stand → List ℕ → Result (Option (Row × Stand)) Told
 step_of s t = step_command s t (command_at s.at t)

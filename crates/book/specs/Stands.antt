@@ -1,17 +1,48 @@
 -- Where a reader stands: the bytes and the rows behind it, and the group underway, if any.
-use Rattle.std.specs.Prelude.{ℕ, ◌+◌, ◌-◌, true, cond, ◌&&◌, Some, None, Ok, Err, Option, Result, ◌==◌}
+use Rattle.std.specs.Prelude.{ℕ, ◌+◌, ◌-◌, Bool, true, cond, ◌&&◌, Some, None, Ok, Err, Option, Result, ◌==◌}
 use Rattle.std.specs.Option.{unwrap_or}
 use Rattle.byte_layer.specs.declared.fault.Told.{Told}
 use Rattle.byte_layer.specs.Fault.{fault}
 use Rattle.bid.specs.Group.{same_area}
 use Rattle.book.specs.declared.row.Row.{Row}
 use Rattle.book.specs.declared.row.Row.TheVariants as kind
+use Rattle.book.specs.declared.stand.Gathering.{Gathering}
 use Rattle.book.specs.declared.stand.Stand.{Stand}
 use Rattle.book.specs.Rows.{row_size}
 
+-- of the group underway: how many members are still due, its row, the area of its first member, and whether all members
+-- so far are of it; with no group underway none is due
+abbrev pub due_in : Option Gathering → ℕ
+due_in None = 0
+due_in (Some g) = g.due
+
+abbrev pub due_of : Stand → ℕ
+due_of s = due_in s.group
+
+abbrev pub row_in : Option Gathering → ℕ
+row_in None = 0
+row_in (Some g) = g.row
+
+abbrev pub row_of : Stand → ℕ
+row_of s = row_in s.group
+
+abbrev pub first_in : Option Gathering → Option ℕ
+first_in None = None
+first_in (Some g) = g.first
+
+abbrev pub first_of : Stand → Option ℕ
+first_of s = first_in s.group
+
+abbrev pub same_in : Option Gathering → Bool
+same_in None = true
+same_in (Some g) = g.same
+
+abbrev pub same_of : Stand → Bool
+same_of s = same_in s.group
+
 -- with no group underway: so many bytes and rows
 abbrev pub fresh : ℕ → ℕ → Stand
-fresh at rows = record { at = at; rows = rows; due = 0; group = 0; first = None; same = true }
+fresh at rows = record { at = at; rows = rows; group = None }
 
 abbrev pub begin : Stand
 begin = fresh 0 0
@@ -22,19 +53,19 @@ onward s r = fresh (s.at + row_size r) (s.rows + 1)
 
 -- one member on, of an area
 abbrev pub member_on : Stand → ℕ → Stand
-member_on s area = record { at = s.at + 51; rows = s.rows + 1; due = s.due - 1; group = s.group; first = Some (unwrap_or s.first area); same = s.same && same_area s.first area }
+member_on s area = record { at = s.at + 51; rows = s.rows + 1; group = Some (record { due = due_of s - 1; row = row_of s; first = Some (unwrap_or (first_of s) area); same = same_of s && same_area (first_of s) area }) }
 
 -- a group's own row on
 abbrev pub group_on : Stand → ℕ → Stand
-group_on s n = record { at = s.at + 2; rows = s.rows + 1; due = n; group = s.rows; first = None; same = true }
+group_on s n = record { at = s.at + 2; rows = s.rows + 1; group = Some (record { due = n; row = s.rows; first = None; same = true }) }
 
 -- the last member closes the group, whose members are to be of one area (25)
 abbrev pub closed : Row → Stand → Result (Option (Row × Stand)) Told
-closed r s = cond (s.due == 0) (cond s.same (Ok (Some (r, fresh s.at s.rows))) (Err (fault 25 s.group))) (Ok (Some (r, s)))
+closed r s = cond (due_of s == 0) (cond (same_of s) (Ok (Some (r, fresh s.at s.rows))) (Err (fault 25 (row_of s)))) (Ok (Some (r, s)))
 
 -- a row, and where the reader stands after it
 unfoldable pub after : Stand → Row → Result (Option (Row × Stand)) Told
-after s (kind.Bid f) = cond (s.due == 0) (Ok (Some (kind.Bid f, onward s (kind.Bid f)))) (closed (kind.Bid f) (member_on s f.area))
+after s (kind.Bid f) = cond (due_of s == 0) (Ok (Some (kind.Bid f, onward s (kind.Bid f)))) (closed (kind.Bid f) (member_on s f.area))
 after s (kind.Group n) = Ok (Some (kind.Group n, group_on s n))
 after s (kind.Need f) = Ok (Some (kind.Need f, onward s (kind.Need f)))
 after s (kind.Border f) = Ok (Some (kind.Border f, onward s (kind.Border f)))

@@ -5,13 +5,13 @@ use Rattle.book.specs.declared.stand.Stand.{Stand}
 use Rattle.book.specs.Fault.{most_rows}
 use Rattle.book.specs.Command.{is_bid}
 use Rattle.book.specs.Rows.{command_of, row_judged, Four, encode}
-use Rattle.book.specs.Stands.{begin, after}
+use Rattle.book.specs.Stands.{begin, after, due_of}
 
 -- the row r may stand next, and leads from s to n: the book is not full, no member is due or r is a bid,
 -- its fields are lawful, and a group that it closes is of one area
 pub record Files (s : Stand) (r : Row) (n : Stand) : Type 0 where
   pub few : s.rows < most_rows
-  pub due : (nat_lt 0 s.due && not (is_bid (command_of r))) ≡ false
+  pub due : (nat_lt 0 (due_of s) && not (is_bid (command_of r))) ≡ false
   pub fine : row_judged s.rows r ≡ Ok (Some r)
   pub four : Four r
   pub next : after s r ≡ Ok (Some (r, n))
@@ -31,6 +31,6 @@ pub record Begins (t : List ℕ) (s : Stand) (rs : List Row) : Type 0 where
 pub record Written (t : List ℕ) (n : ℕ) (rs : List Row) : Type 0 where
   pub end : Stand
   pub begins : Begins t end rs
-  pub whole : end.due ≡ 0
+  pub whole : due_of end ≡ 0
   pub size : n ≡ end.at + 1
   pub seal : take n t ≡ encode rs ++ (0x53 ∷ [])

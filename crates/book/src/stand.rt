@@ -1,23 +1,29 @@
-ghost use Rattle.std.specs.Prelude.{◌≡◌, ℕ, ◌+◌, ◌^◌, ◌<◌};
+ghost use Rattle.std.specs.Prelude.{◌≡◌, ℕ, ◌+◌, ◌^◌, ◌<◌, Some};
 ghost use Rattle.byte_layer.specs.Fault.{heard};
 ghost use Rattle.book.specs.Fault.{told_book};
 ghost use Rattle.book.specs.Rows.{row_size};
-ghost use Rattle.book.specs.Stands.{fresh, begin, onward, member_on, group_on, closed, after};
+ghost use Rattle.book.specs.Stands.{fresh, begin, due_of, onward, member_on, group_on, closed, after};
 
 use crate::fault::BookFault;
 use crate::row::Row;
 use bid::group::same_area;
 
-// Where a reader stands in a text: the bytes and the rows behind it, and, of a group underway, how many
-// members are still due, its row, the area of its first member, and whether all members so far are of it.
+// An exclusive group underway: how many members are still due, its row, the area of its first member, and whether all
+// members so far are of it.
+#[derive(Clone, Copy)]
+pub struct Gathering {
+    pub due: u8,
+    pub row: usize,
+    pub first: Option<u8>,
+    pub same: bool,
+}
+
+// Where a reader stands in a text: the bytes and the rows behind it, and the group underway, if any.
 #[derive(Clone, Copy)]
 pub struct Stand {
     pub at: usize,
     pub rows: usize,
-    pub due: u8,
-    pub group: usize,
-    pub first: Option<u8>,
-    pub same: bool,
+    pub group: Option<Gathering>,
 }
 
 impl Stand {
@@ -34,10 +40,17 @@ impl Stand {
         Stand {
             at,
             rows,
-            due: 0,
-            group: 0,
-            first: None,
-            same: true,
+            group: None,
+        }
+    }
+
+    // How many members are due.
+    pub fn due(&self) -> u8
+        ensures { result ≡ due_of self.now }
+    {
+        match self.group {
+            Some(group) => group.due,
+            None => 0,
         }
     }
 
@@ -48,20 +61,24 @@ impl Stand {
         Stand::fresh(self.at + row.size(), self.rows + 1)
     }
 
-    fn member_on(self, area: u8) -> Stand
-        requires { (self.at + 51 < 2 ^ 64) × ((self.rows < 1024) × (0 < self.due)) }
+    // One member of a group on.
+    fn member_on(self, group: Gathering, area: u8) -> Stand
+        requires { (self.at + 51 < 2 ^ 64) × ((self.rows < 1024) × ((0 < group.due) × (self.group ≡ Some group))) }
         ensures { result ≡ member_on self area }
     {
         Stand {
             at: self.at + 51,
             rows: self.rows + 1,
-            due: self.due - 1,
-            group: self.group,
-            first: Some(self.first.unwrap_or(area)),
-            same: self.same && same_area(self.first, area),
+            group: Some(Gathering {
+                due: group.due - 1,
+                row: group.row,
+                first: group.first.or(Some(area)),
+                same: group.same && same_area(group.first, area),
+            }),
         }
     }
 
+    // A group's own row on.
     fn group_on(self, members: u8) -> Stand
         requires { (self.at + 2 < 2 ^ 64) × (self.rows < 1024) }
         ensures { result ≡ group_on self members }
@@ -69,26 +86,26 @@ impl Stand {
         Stand {
             at: self.at + 2,
             rows: self.rows + 1,
-            due: members,
-            group: self.rows,
-            first: None,
-            same: true,
+            group: Some(Gathering {
+                due: members,
+                row: self.rows,
+                first: None,
+                same: true,
+            }),
         }
     }
 
     // Where a reader stands after a row.
+    #[tactic(auto, unfolding(crate::specs::Stands::after))]
     pub fn after(self, row: Row) -> Result<Option<(Row, Stand)>, BookFault>
         requires { (self.at + row_size row < 2 ^ 64) × (self.rows < 1024) }
         ensures { heard told_book result ≡ after self row }
     {
         match row {
-            Row::Bid(bid) => {
-                if self.due == 0 {
-                    Ok(Some((row, self.onward(&row))))
-                } else {
-                    closed_by(row, self.member_on(bid.area))
-                }
-            }
+            Row::Bid(bid) => match self.group {
+                Some(group) if group.due > 0 => closed_by(row, self.member_on(group, bid.area)),
+                _ => Ok(Some((row, self.onward(&row)))),
+            },
             Row::Group(members) => Ok(Some((row, self.group_on(members)))),
             Row::Need(_) => Ok(Some((row, self.onward(&row)))),
             Row::Border(_) => Ok(Some((row, self.onward(&row)))),
@@ -100,11 +117,9 @@ impl Stand {
 fn closed_by(row: Row, next: Stand) -> Result<Option<(Row, Stand)>, BookFault>
     ensures { heard told_book result ≡ closed row next }
 {
-    if next.due > 0 {
-        return Ok(Some((row, next)));
+    match next.group {
+        Some(group) if group.due > 0 => Ok(Some((row, next))),
+        Some(group) if !group.same => Err(BookFault::Mixed(group.row)),
+        _ => Ok(Some((row, Stand::fresh(next.at, next.rows)))),
     }
-    if !next.same {
-        return Err(BookFault::Mixed(next.group));
-    }
-    Ok(Some((row, Stand::fresh(next.at, next.rows))))
 }

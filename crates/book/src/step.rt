@@ -15,7 +15,7 @@ pub fn step(text: &[u8], s: Stand) -> Result<Option<(Row, Stand)>, BookFault>
     ensures { heard told_book result ≡ step_of s text.now }
 {
     let command = Command::at(text, s.at)?;
-    if s.due > 0 && !command.is_bid() {
+    if s.due() > 0 && !command.is_bid() {
         return Err(BookFault::Member(s.rows));
     }
     if command.is_seal() {

@@ -6,6 +6,7 @@ use Rattle.std.proofs.lemmas.List.{take_more_set}
 use Rattle.bid.specs.declared.fields.BidFields.{BidFields}
 use Rattle.bid.specs.declared.lawful.Bid.{Bid}
 use Rattle.bid.specs.Group.{same_area}
+use Rattle.book.specs.Stands.{due_of, first_of, same_of}
 use Rattle.book.specs.declared.row.Row.{Row}
 use Rattle.book.specs.declared.row.Row.TheVariants as kind
 use Rattle.book.specs.declared.stand.Stand.{Stand}
@@ -37,10 +38,10 @@ one_from_in a (b ∷ bs) h = let both = and_parts (eqb b.fields.area a) (in_area
 pub record Gathering (s : Stand) (t : List ℕ) (n : ℕ) (bs : List Bid) (e : Stand) (u : List ℕ) : Type 0 where
   pub of : ℕ
   pub rows : ahead s t ≡ bid_rows bs ++ ahead e u
-  pub due : e.due + length bs ≡ n
-  pub first : 0 < e.due → e.first ≡ Some of
-  pub same : 0 < e.due → e.same ≡ in_area of bs
-  pub area : e.due ≡ 0 → in_area of bs ≡ true
+  pub due : (due_of e) + length bs ≡ n
+  pub first : 0 < (due_of e) → (first_of e) ≡ Some of
+  pub same : 0 < (due_of e) → (same_of e) ≡ in_area of bs
+  pub area : (due_of e) ≡ 0 → in_area of bs ≡ true
 
 gathering_first : {s e : Stand} {t u : List ℕ} {n : ℕ} (b : Bid) → Begun s n → MemberOn s b.fields.area e → ahead s t ≡ kind.Bid b.fields ∷ ahead e u → Gathering s t n (b ∷ []) e u
 gathering_first b g m rows =
@@ -52,8 +53,8 @@ gathering_first b g m rows =
       of = a;
       rows = rows;
       due = omega arith;
-      first = λ h. ap (λ (z : Stand). z.first) (m.on h) ∙ ap (λ o. Some (unwrap_or o a)) g.first;
-      same = λ h. ap (λ (z : Stand). z.same) (m.on h) ∙ ap₂ (λ v o. v && same_area o a) g.same g.first ∙ eq-eqb a a refl ∙ sym own;
+      first = λ h. ap first_of (m.on h) ∙ ap (λ o. Some (unwrap_or o a)) g.first;
+      same = λ h. ap same_of (m.on h) ∙ ap₂ (λ v o. v && same_area o a) g.same g.first ∙ eq-eqb a a refl ∙ sym own;
       area = λ _. own;
     }
 
@@ -61,7 +62,7 @@ gathering_next : {s e f : Stand} {t u v : List ℕ} {n : ℕ} {bs : List Bid} �
 gathering_next {e = e} {f = f} {v = v} {bs = bs} g below b m rows =
     let a = g.of in
     let d = g.due in
-    let left : 0 < e.due = omega arith in
+    let left : 0 < (due_of e) = omega arith in
     let x = m.due in
     let l = length-append bs (b ∷ []) in
     let same = ap₂ (λ w o. w && same_area o b.fields.area) (g.same left) (g.first left) ∙ sym (area_push a bs b) in
@@ -69,8 +70,8 @@ gathering_next {e = e} {f = f} {v = v} {bs = bs} g below b m rows =
       of = a;
       rows = g.rows ∙ ap (λ rs. bid_rows bs ++ rs) rows ∙ rows_push bs b (ahead f v);
       due = omega arith;
-      first = λ h. ap (λ (z : Stand). z.first) (m.on h) ∙ ap (λ o. Some (unwrap_or o b.fields.area)) (g.first left);
-      same = λ h. ap (λ (z : Stand). z.same) (m.on h) ∙ same;
+      first = λ h. ap first_of (m.on h) ∙ ap (λ o. Some (unwrap_or o b.fields.area)) (g.first left);
+      same = λ h. ap same_of (m.on h) ∙ same;
       area = λ h. sym same ∙ m.closes h;
     }
 
@@ -83,7 +84,7 @@ pub record Filling (s : Stand) (t : List ℕ) (n : ℕ) (k : ℕ) (places : List
 pub filling_none : {s e : Stand} {t u : List ℕ} {n : ℕ} (b : Bid) (places : List Bid) → Begun s n → MemberOn s b.fields.area e → ahead s t ≡ kind.Bid b.fields ∷ ahead e u → length places + 1 ≡ n → Filling s t n 0 places e u
 filling_none b places g m rows long = record { one = b; long = long; read = gathering_first b g m rows }
 
-pub filling_due : {s e : Stand} {t u : List ℕ} {n k : ℕ} {places : List Bid} → Filling s t n k places e u → k < length places → 0 < e.due
+pub filling_due : {s e : Stand} {t u : List ℕ} {n k : ℕ} {places : List Bid} → Filling s t n k places e u → k < length places → 0 < (due_of e)
 filling_due {k = k} {places} f h = let d = f.read.due in let l = f.long in let z = length-take-le k places (omega arith) in omega arith
 
 pub filling_next : {s e f : Stand} {t u v : List ℕ} {n k : ℕ} {places : List Bid} → Filling s t n k places e u → k < length places → (b : Bid) → MemberOn e b.fields.area f → ahead e u ≡ kind.Bid b.fields ∷ ahead f v → Filling s t n (k + 1) (set places k b) f v
@@ -107,7 +108,7 @@ filling_end {s} {e} {t = t} {u} {n = n} {k} {places} g h b first back long =
     let d = r.due in
     let l = g.long in
     let z = ap length whole in
-    let done : e.due ≡ 0 = omega arith in
+    let done : (due_of e) ≡ 0 = omega arith in
     record {
       long = long;
       rows = rows ∙ ap (λ x. kind.Bid x ∷ (bid_rows places ++ ahead e u)) same ∙ ap (λ bs. bid_rows bs ++ ahead e u) (sym front);

@@ -19,7 +19,7 @@ use Rattle.border.specs.declared.fields.BorderFields.{BorderFields}
 use Rattle.book.specs.declared.row.Row.{Row}
 use Rattle.book.specs.declared.row.Row.TheVariants as kind
 use Rattle.book.specs.declared.stand.Stand.{Stand}
-use Rattle.book.specs.Stands.{onward, group_on, closed, member_on, after}
+use Rattle.book.specs.Stands.{due_of, onward, group_on, closed, member_on, after}
 use Rattle.book.proofs.Steps.{cond_case}
 use Rattle.group.specs.Group.{member_of, grouping}
 use Rattle.sealed.specs.Lot.{Filed, bid, need, border, bids_among, filed, filed_meaning, book_meaning, is_group}
@@ -30,15 +30,15 @@ same_stand : (r : Row) (a b : Stand) → ◌≡◌ {A = Result (Option (Row × S
 same_stand r a b e = let z : ◌≡◌ {A = Row × Stand} (r, a) (r, b) = cc in ap (λ (p : Row × Stand). p.1) z
 
 -- after a row by itself no member is due
-pub stays_whole : (s : Stand) (r : Row) (n : Stand) → after s r ≡ Ok (Some (r, n)) → s.due ≡ 0 → is_group r ≡ false → n.due ≡ 0
+pub stays_whole : (s : Stand) (r : Row) (n : Stand) → after s r ≡ Ok (Some (r, n)) → (due_of s) ≡ 0 → is_group r ≡ false → due_of n ≡ 0
 unfolding after
 stays_whole s (kind.Bid f) n e d g =
-    cond_case (eqb s.due 0) (Ok (Some (kind.Bid f, onward s (kind.Bid f)))) (closed (kind.Bid f) (member_on s f.area)) (Ok (Some (kind.Bid f, n))) e
-    (λ _ p. sym (ap (λ (m : Stand). m.due) (same_stand (kind.Bid f) (onward s (kind.Bid f)) n p)))
-    (λ z _. absurd (both_ways (eqb s.due 0) z (eq-eqb s.due 0 d)))
+    cond_case (eqb (due_of s) 0) (Ok (Some (kind.Bid f, onward s (kind.Bid f)))) (closed (kind.Bid f) (member_on s f.area)) (Ok (Some (kind.Bid f, n))) e
+    (λ _ p. sym (ap due_of (same_stand (kind.Bid f) (onward s (kind.Bid f)) n p)))
+    (λ z _. absurd (both_ways (eqb (due_of s) 0) z (eq-eqb (due_of s) 0 d)))
 stays_whole s (kind.Group k) n e d g = let z : ◌≡◌ {A = ℕ} 0 1 = cc in absurd (omega arith)
-stays_whole s (kind.Need f) n e d g = sym (ap (λ (m : Stand). m.due) (same_stand (kind.Need f) (onward s (kind.Need f)) n e))
-stays_whole s (kind.Border f) n e d g = sym (ap (λ (m : Stand). m.due) (same_stand (kind.Border f) (onward s (kind.Border f)) n e))
+stays_whole s (kind.Need f) n e d g = sym (ap due_of (same_stand (kind.Need f) (onward s (kind.Need f)) n e))
+stays_whole s (kind.Border f) n e d g = sym (ap due_of (same_stand (kind.Border f) (onward s (kind.Border f)) n e))
 
 -- after a group's row its members are due
 pub begins_group : (s : Stand) (k : ℕ) (n : Stand) → after s (kind.Group k) ≡ Ok (Some (kind.Group k, n)) → Begun n k

@@ -22,7 +22,7 @@ use Rattle.book.specs.declared.stand.Stand.{Stand}
 use Rattle.book.specs.Command.{is_bid}
 use Rattle.book.specs.Rows.{command_of, row_size, rowed, row_read, row_judged}
 use Rattle.book.specs.Writing.{Runs, none, more, Written}
-use Rattle.book.specs.Stands.{fresh, begin, onward, member_on, closed, after}
+use Rattle.book.specs.Stands.{due_of, row_of, same_of, fresh, begin, onward, member_on, closed, after}
 use Rattle.book.specs.Reading.{step_of, push, read_rows, decoded, ends, checked, rows_of, rows_in}
 use Rattle.book.proofs.Trip.{seal_is}
 use Rattle.book.proofs.Steps.{cond_case, no_none, step_moves, row_has, step_ended, reads_seal, reads_fault}
@@ -97,13 +97,13 @@ pub no_fault : {P : Type 0} (s : Stand) (t : List ℕ) (x : Told) → step_of s 
 no_fault s t x e h = let z : true ≡ false = sym h ∙ fault_reads s t x e in let w : ◌≡◌ {A = ℕ} 0 1 = cc in absurd (omega arith)
 
 -- while a member is due there is a row
-due_at : (s : Stand) (t : List ℕ) → reads_on s t ≡ true → 0 < s.due → (x : Result (Option (Row × Stand)) Told) → step_of s t ≡ x → 0 < length (ahead s t)
+due_at : (s : Stand) (t : List ℕ) → reads_on s t ≡ true → 0 < (due_of s) → (x : Result (Option (Row × Stand)) Told) → step_of s t ≡ x → 0 < length (ahead s t)
 due_at s t h d (Err x) e = no_fault s t x e h
 due_at s t h d (Ok None) e =
     let m = step_ended s t e in
     let i = seal_is m.command m.seal in
-    let z = subst (λ (c : Command). (ltb 0 s.due && not (is_bid c)) ≡ false) i m.due in
-    let none = ltb-false 0 s.due (front (ltb 0 s.due) z) in
+    let z = subst (λ (c : Command). (ltb 0 (due_of s) && not (is_bid c)) ≡ false) i m.due in
+    let none = ltb-false 0 (due_of s) (front (ltb 0 (due_of s)) z) in
     absurd (omega arith)
   where
     front : (b : Bool) → (b && true) ≡ false → b ≡ false
@@ -111,7 +111,7 @@ due_at s t h d (Ok None) e =
     front false e = refl
 due_at s t h d (Ok (Some p)) e = let l = ap length (on_rows s t p.0 p.1 e h) in omega arith
 
-pub due_left : (s : Stand) (t : List ℕ) → reads_on s t ≡ true → 0 < s.due → 0 < length (ahead s t)
+pub due_left : (s : Stand) (t : List ℕ) → reads_on s t ≡ true → 0 < (due_of s) → 0 < length (ahead s t)
 due_left s t h d = due_at s t h d (step_of s t) refl
 
 -- the rows of a whole text
@@ -177,8 +177,8 @@ command_of_lem command.Seal n t r e = no_none r e
 
 -- ---- members
 -- where a member is due the row is a bid
-pub is_member : (s : Stand) (r : Row) → 0 < s.due → (ltb 0 s.due && not (is_bid (command_of r))) ≡ false → is_bid (command_of r) ≡ true
-is_member s r h e = by_test (is_bid (command_of r)) (ap (λ b. b && not (is_bid (command_of r))) (sym (lt-ltb 0 s.due h)) ∙ e)
+pub is_member : (s : Stand) (r : Row) → 0 < (due_of s) → (ltb 0 (due_of s) && not (is_bid (command_of r))) ≡ false → is_bid (command_of r) ≡ true
+is_member s r h e = by_test (is_bid (command_of r)) (ap (λ b. b && not (is_bid (command_of r))) (sym (lt-ltb 0 (due_of s) h)) ∙ e)
   where
     by_test : (b : Bool) → (true && not b) ≡ false → b ≡ true
     by_test true e = refl
@@ -187,19 +187,19 @@ is_member s r h e = by_test (is_bid (command_of r)) (ap (λ b. b && not (is_bid 
 pub no_member : {P : Type 0} → false ≡ true → P
 no_member e = let z : ◌≡◌ {A = ℕ} 0 1 = cc in absurd (omega arith)
 
-pub member_on_lem : (s : Stand) (f : BidFields) (n : Stand) → after s (kind.Bid f) ≡ Ok (Some (kind.Bid f, n)) → 0 < s.due → MemberOn s f.area n
+pub member_on_lem : (s : Stand) (f : BidFields) (n : Stand) → after s (kind.Bid f) ≡ Ok (Some (kind.Bid f, n)) → 0 < (due_of s) → MemberOn s f.area n
 unfolding after
 member_on_lem s f n e d =
     let next = member_on s f.area in
     let last = fresh (s.at + 51) (s.rows + 1) in
     let row = kind.Bid f in
-    cond_case (eqb s.due 0) (Ok (Some (row, onward_stand))) (closed row next) (Ok (Some (row, n))) e
-    (λ z _. absurd (omega (arith, eqb-true s.due 0 z)))
-    (λ _ p. cond_case (eqb next.due 0) (cond next.same (Ok (Some (row, last))) (Err (fault 25 s.group))) (Ok (Some (row, next))) (Ok (Some (row, n))) p
-    (λ z x. cond_case next.same (Ok (Some (row, last))) (Err (fault 25 s.group)) (Ok (Some (row, n))) x
-    (λ w y. let q : last ≡ n = same_stand row last n y in let u = ap (λ (m : Stand). m.due) q in let v = eqb-true (s.due - 1) 0 z in record { due = omega arith; on = λ h. absurd (omega arith); closes = λ _. w })
-    (λ _ y. no_err (fault 25 s.group) (Some (row, n)) y))
-    (λ z x. let q : next ≡ n = same_stand row next n x in let u = ap (λ (m : Stand). m.due) q in record { due = omega arith; on = λ _. sym q; closes = λ h. absurd (both_ways (eqb (s.due - 1) 0) z (eq-eqb (s.due - 1) 0 (u ∙ h))) }))
+    cond_case (eqb (due_of s) 0) (Ok (Some (row, onward_stand))) (closed row next) (Ok (Some (row, n))) e
+    (λ z _. absurd (omega (arith, eqb-true (due_of s) 0 z)))
+    (λ _ p. cond_case (eqb (due_of next) 0) (cond (same_of next) (Ok (Some (row, last))) (Err (fault 25 (row_of s)))) (Ok (Some (row, next))) (Ok (Some (row, n))) p
+    (λ z x. cond_case (same_of next) (Ok (Some (row, last))) (Err (fault 25 (row_of s))) (Ok (Some (row, n))) x
+    (λ w y. let q : last ≡ n = same_stand row last n y in let u = ap due_of q in let v = eqb-true ((due_of s) - 1) 0 z in record { due = omega arith; on = λ h. absurd (omega arith); closes = λ _. w })
+    (λ _ y. no_err (fault 25 (row_of s)) (Some (row, n)) y))
+    (λ z x. let q : next ≡ n = same_stand row next n x in let u = ap due_of q in record { due = omega arith; on = λ _. sym q; closes = λ h. absurd (both_ways (eqb ((due_of s) - 1) 0) z (eq-eqb ((due_of s) - 1) 0 (u ∙ h))) }))
   where
     onward_stand : Stand
     onward_stand = onward s (kind.Bid f)

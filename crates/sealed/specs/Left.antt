@@ -3,7 +3,7 @@ use Rattle.std.specs.Prelude.{◌≡◌, false, not, ◌&&◌, List, ◌∷◌, 
 use Rattle.book.specs.declared.row.Row.{Row}
 use Rattle.book.specs.Command.{is_bid}
 use Rattle.book.specs.Rows.{command_of}
-use Rattle.book.specs.Stands.{after}
+use Rattle.book.specs.Stands.{after, due_of}
 use Rattle.sealed.specs.declared.rows.Rows.{Rows}
 use Rattle.sealed.specs.Ahead.{ahead}
 
@@ -14,4 +14,4 @@ rows_left x = ahead x.stand x.rest.now
 pub record NextRow (x : Rows) (r : Row) (y : Rows) : Type 0 where
   pub ahead : rows_left x ≡ r ∷ rows_left y
   pub after : after x.stand r ≡ Ok (Some (r, y.stand))
-  pub due : (nat_lt 0 x.stand.due && not (is_bid (command_of r))) ≡ false
+  pub due : (nat_lt 0 (due_of x.stand) && not (is_bid (command_of r))) ≡ false

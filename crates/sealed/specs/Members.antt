@@ -4,7 +4,7 @@ use Rattle.bid.specs.declared.lawful.Bid.{Bid}
 use Rattle.book.specs.declared.row.Row.{Row}
 use Rattle.book.specs.declared.row.Row.TheVariants as kind
 use Rattle.book.specs.declared.stand.Stand.{Stand}
-use Rattle.book.specs.Stands.{member_on}
+use Rattle.book.specs.Stands.{member_on, due_of, first_of, same_of}
 use Rattle.group.specs.Group.{one_area}
 use Rattle.sealed.specs.Ahead.{ahead}
 
@@ -15,19 +15,19 @@ bid_rows (b ∷ bs) = kind.Bid b.fields ∷ bid_rows bs
 
 -- one member on: from s to n, by a bid of an area
 pub record MemberOn (s : Stand) (area : ℕ) (n : Stand) : Type 0 where
-  pub due : n.due + 1 ≡ s.due
-  pub on : 0 < n.due → n ≡ member_on s area
-  pub closes : n.due ≡ 0 → (member_on s area).same ≡ true
+  pub due : due_of n + 1 ≡ due_of s
+  pub on : 0 < due_of n → n ≡ member_on s area
+  pub closes : due_of n ≡ 0 → same_of (member_on s area) ≡ true
 
 -- a group of n members was just begun
 pub record Begun (s : Stand) (n : ℕ) : Type 0 where
-  pub due : s.due ≡ n
-  pub first : s.first ≡ None
-  pub same : s.same ≡ true
+  pub due : due_of s ≡ n
+  pub first : first_of s ≡ None
+  pub same : same_of s ≡ true
 
 -- from (s, t) on, the first n bids of a list were read, all of one area, and (e, u) is left
 pub record Gathered (s : Stand) (t : List ℕ) (n : ℕ) (all : List Bid) (e : Stand) (u : List ℕ) : Type 0 where
   pub long : length all ≡ 8
   pub rows : ahead s t ≡ bid_rows (take n all) ++ ahead e u
   pub area : one_area (take n all) ≡ true
-  pub whole : e.due ≡ 0
+  pub whole : due_of e ≡ 0

@@ -2,6 +2,7 @@ ghost use Rattle.std.specs.Prelude.{◌≡◌, ◌≤◌, [], length, drop, Some
 ghost use Rattle.std.specs.Iterator.{YieldsFirst, item_count};
 ghost use Rattle.book.specs.Rows.{row_size};
 ghost use Rattle.book.specs.Reading.{step_of, rows_in};
+ghost use Rattle.book.specs.Stands.{due_of};
 ghost use Rattle.sealed.specs.Left.{rows_left, NextRow};
 
 use crate::rows::Rows;
@@ -14,7 +15,7 @@ impl<'a> SealedBook<'a> {
     // The rows from the first to the last, each decoded where it lies.
     pub fn iter(&self) -> Rows<'a>
         ensures rows { rows_left result ≡ rows_in self.now.text.now }
-        ensures whole { result.stand.due ≡ 0 }
+        ensures whole { due_of result.stand ≡ 0 }
     {
         Rows {
             rest: self.text,

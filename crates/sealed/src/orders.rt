@@ -1,4 +1,5 @@
 ghost use Rattle.std.specs.Prelude.{◌≡◌};
+ghost use Rattle.book.specs.Stands.{due_of};
 
 use crate::rows::Rows;
 
@@ -6,5 +7,5 @@ use crate::rows::Rows;
 #[derive(Clone, Copy)]
 pub struct Orders<'a> {
     pub(crate) rows: Rows<'a>,
-    ghost whole: { rows.stand.due ≡ 0 },
+    ghost whole: { due_of rows.stand ≡ 0 },
 }

@@ -1,6 +1,7 @@
 ghost use Rattle.std.specs.Prelude.{◌≡◌, ◌<◌, ◌≤◌, true, ◌∷◌, ◌++◌, length};
 ghost use Rattle.bid.specs.Group.{group_fine};
 ghost use Rattle.book.specs.declared.row.Row.TheVariants as kind;
+ghost use Rattle.book.specs.Stands.{due_of};
 ghost use Rattle.order.specs.Order.{members_of};
 ghost use Rattle.sealed.specs.Left.{rows_left};
 ghost use Rattle.sealed.specs.Members.{bid_rows, MemberOn, Begun, Gathered};
@@ -13,7 +14,7 @@ use group::group::ExclusiveGroup;
 impl<'a> Rows<'a> {
     // The next member of the group underway, and the rows after it.
     fn member(self) -> (Bid, Rows<'a>)
-        requires { 0 < self.stand.due }
+        requires { 0 < due_of self.stand }
         ensures ahead { rows_left self.entry ≡ kind.Bid result.0.fields ∷ rows_left result.1 }
         ensures stands { MemberOn self.entry.stand result.0.fields.area result.1.stand }
     {
@@ -48,7 +49,7 @@ impl<'a> Rows<'a> {
         requires fine { group_fine size ≡ true }
         ensures ahead { rows_left self.entry ≡ bid_rows (members_of result.0) ++ rows_left result.1 }
         ensures size { length (members_of result.0) ≡ size }
-        ensures whole { result.1.stand.due ≡ 0 }
+        ensures whole { due_of result.1.stand ≡ 0 }
     {
         let (all, rows) = self.members(size);
         let Some(group) = ExclusiveGroup::of(&all[..size]) else {

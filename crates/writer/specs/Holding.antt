@@ -1,5 +1,5 @@
 -- The rows that a text holds for a book that is being written: those that were filed, in order.
-use Rattle.std.specs.Prelude.{ℕ, ◌<◌, ◌≤◌, true, List, ◌++◌}
+use Rattle.std.specs.Prelude.{ℕ, ◌<◌, ◌≤◌, true, List, ◌++◌, Some}
 use Rattle.book.specs.declared.row.Row.{Row}
 use Rattle.book.specs.declared.stand.Stand.{Stand}
 use Rattle.book.specs.Stands.{fresh}
@@ -14,7 +14,7 @@ abbrev pub opened : OpenBook → Stand
 opened b = fresh b.length b.rows
 
 abbrev pub underway : GroupUnderway → Stand
-underway g = record { at = g.length; rows = g.rows; due = g.due; group = g.group; first = g.first; same = true }
+underway g = record { at = g.length; rows = g.rows; group = Some (record { due = g.due; row = g.group; first = g.first; same = true }) }
 
 -- t holds the rows rs, which the book b has so far
 abbrev pub Holds : List ℕ → OpenBook → List Row → Type 0

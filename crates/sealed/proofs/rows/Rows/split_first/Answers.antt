@@ -1,4 +1,5 @@
 use Rattle.std.proofs.Common.{◌≡◌, false, not, ◌&&◌, ltb, ◌∷◌, Some, Ok, sym, ap, ◌∙◌, subst, ap₂}
+use Rattle.book.specs.Stands.{due_of}
 use Rattle.book.specs.declared.command.Command.{Command}
 use Rattle.book.specs.Command.{is_bid}
 use Rattle.book.specs.Fault.{told_book}
@@ -25,6 +26,6 @@ returns c =
     let e : step_of x.stand t ≡ Ok (Some (r, n)) = sym c.in-Ok.ensures ∙ ap Ok c.in_ok-row.was in
     record {
       ahead = on_rows x.stand t r n e x.sound ∙ ap₂ (λ s u. r ∷ ahead s u) (sym c.behind.ensures.stand) (sym c.behind.ensures.rest);
-      due = let k = step_took x.stand t r n e in subst (λ (d : Command). (ltb 0 x.stand.due && not (is_bid d)) ≡ false) (command_of_lem k.command x.stand.rows t r k.row) k.due;
+      due = let k = step_took x.stand t r n e in subst (λ (d : Command). (ltb 0 (due_of x.stand) && not (is_bid d)) ≡ false) (command_of_lem k.command x.stand.rows t r k.row) k.due;
       after = (step_took x.stand t r n e).next ∙ ap (λ s. Ok (Some (r, s))) (sym c.behind.ensures.stand);
     }
