@@ -1,5 +1,9 @@
-ghost use Rattle.std.specs.Prelude.{◌≡◌, ◌<◌};
-ghost use Rattle.lot.specs.Page.{table_of, Ready};
+ghost use Rattle.std.specs.Prelude.{◌≡◌, ◌+◌, ◌-◌, ◌*◌, ◌<◌, ◌≤◌, take, drop, MatchOption};
+ghost use Rattle.std.specs.Iterator.{at_most};
+ghost use Rattle.lot.specs.Meaning.{cell_rows};
+ghost use Rattle.lot.specs.Duties.{most_lot_rows};
+ghost use Rattle.lot.specs.Join.{Parted, nothing};
+ghost use Rattle.lot.specs.Page.{table_of, Sized, Ready};
 
 use crate::chain::Chain;
 use crate::joined::{COUNTED, front_part, rest_part};
@@ -10,28 +14,99 @@ use lot::views::{Cells, Prices};
 #[derive(Clone, Copy)]
 pub struct Chained<C>(pub C);
 
-// The lot that a row stands in, that lot's cells, and the row's number there.
-fn lot_of_row<'a, C: Chain>(lots: C, cells: Cells<'a>, row: usize) -> (C::Link, Cells<'a>, usize)
-    requires ready { Ready (C.Chain.meaning lots) cells.bytes.now }
-    requires row { row < (C.Chain.meaning lots).rows }
-    ensures ready { Ready (C.Link.Lot.meaning result.0) result.1.bytes.now }
-    ensures row { result.2 < (C.Link.Lot.meaning result.0).rows }
-    ensures worth { (C.Link.Lot.meaning result.0).worth (table_of result.1.bytes.now) result.2 ≡ (C.Chain.meaning lots).worth (table_of cells.entry.bytes.now) row }
-    ensures net { (C.Link.Lot.meaning result.0).net (table_of result.1.bytes.now) result.2 ≡ (C.Chain.meaning lots).net (table_of cells.entry.bytes.now) row }
-{
-    let mut chain = lots;
-    let mut rest = cells;
-    let mut left = row;
-    'walk: while let Some((lot, after)) = chain.split() {
-        let rows = lot.row_count();
-        if left < rows {
-            return (lot, front_part(&lot, rest), left);
-        }
-        left -= rows;
-        rest = rest_part(&lot, rest);
-        chain = after;
+// The lots of a chain, from the first to the last.
+#[derive(Drop)]
+struct Links<C>(C);
+
+impl<C: Chain> Iterator for Links<C> {
+    type Item = C::Link;
+
+    ghost next_gives = { λ s r t. MatchOption r (C.Chain.meaning s.0 ≡ nothing) (λ lot. Parted (C.Chain.meaning s.0) (C.Link.Lot.meaning lot) (C.Chain.meaning t.0)) };
+
+    ghost remaining = { λ s. at_most (C.Chain.left s.0) };
+
+    fn next(&mut self) -> Option<C::Link> {
+        let (lot, after) = self.0.split()?;
+        self.0 = after;
+        Some(lot)
     }
-    unreachable()
+}
+
+// A lot of a chain, the cells that are its own, and how many rows stand before it.
+#[derive(Drop)]
+struct Part<'a, L> {
+    lot: L,
+    cells: Cells<'a>,
+    before: usize,
+}
+
+// The parts of a chain, from the first to the last.
+#[derive(Drop)]
+struct Parts<'a, C: Chain> {
+    chain: C,
+    rest: Cells<'a>,
+    passed: usize,
+    ghost sized: { Sized (C.Chain.meaning chain) rest.bytes.now },
+    ghost few: { passed + (C.Chain.meaning chain).rows ≤ most_lot_rows },
+}
+
+impl<'a, C: Chain> Iterator for Parts<'a, C> {
+    type Item = Part<'a, C::Link>;
+
+    ghost next_gives = { λ s r t. MatchOption r (C.Chain.meaning s.chain ≡ nothing) (λ p. record {
+      two : Parted (C.Chain.meaning s.chain) (C.Link.Lot.meaning p.lot) (C.Chain.meaning t.chain);
+      front : p.cells.bytes.now ≡ take (17 * cell_rows (C.Link.Lot.meaning p.lot)) s.rest.bytes.now;
+      rest : t.rest.bytes.now ≡ drop (17 * cell_rows (C.Link.Lot.meaning p.lot)) s.rest.bytes.now;
+      before : p.before ≡ s.passed;
+      passed : t.passed ≡ s.passed + (C.Link.Lot.meaning p.lot).rows;
+    }) };
+
+    ghost remaining = { λ s. at_most (C.Chain.left s.chain) };
+
+    fn next(&mut self) -> Option<Part<'a, C::Link>> {
+        let (lot, chain) = self.chain.split()?;
+        let cells = front_part(&lot, self.rest);
+        let before = self.passed;
+        *self = Parts {
+            chain,
+            rest: rest_part(&lot, self.rest),
+            passed: before + lot.row_count(),
+        };
+        Some(Part { lot, cells, before })
+    }
+}
+
+impl<C: Chain> Chained<C> {
+    fn parts<'a>(&self, cells: Cells<'a>) -> Parts<'a, C>
+        requires { Sized (C.Chain.meaning self.now.0) cells.bytes.now }
+        ensures chain { result.chain ≡ self.now.0 }
+        ensures rest { result.rest.bytes.now ≡ cells.entry.bytes.now }
+        ensures passed { result.passed ≡ 0 }
+    {
+        Parts {
+            chain: self.0,
+            rest: cells,
+            passed: 0,
+        }
+    }
+
+    // The part that a row stands in.
+    fn part_of_row<'a>(&self, cells: Cells<'a>, row: usize) -> Part<'a, C::Link>
+        requires ready { Ready (C.Chain.meaning self.now.0) cells.bytes.now }
+        requires row { row < (C.Chain.meaning self.now.0).rows }
+        ensures ready { Ready (C.Link.Lot.meaning result.lot) result.cells.bytes.now }
+        ensures before { result.before ≤ row }
+        ensures row { row - result.before < (C.Link.Lot.meaning result.lot).rows }
+        ensures worth { (C.Link.Lot.meaning result.lot).worth (table_of result.cells.bytes.now) (row - result.before) ≡ (C.Chain.meaning self.now.0).worth (table_of cells.entry.bytes.now) row }
+        ensures net { (C.Link.Lot.meaning result.lot).net (table_of result.cells.bytes.now) (row - result.before) ≡ (C.Chain.meaning self.now.0).net (table_of cells.entry.bytes.now) row }
+    {
+        for part in self.parts(cells) {
+            if row - part.before < part.lot.row_count() {
+                return part;
+            }
+        }
+        unreachable()
+    }
 }
 
 impl<C: Chain> Lot for Chained<C> {
@@ -48,84 +123,61 @@ impl<C: Chain> Lot for Chained<C> {
     ghost limited = { λ x. (C.Chain.duties x.0).limited };
 
     fn row_count(&self) -> usize {
-        let mut chain = self.0;
         let mut total = 0;
-        'walk: while let Some((lot, after)) = chain.split() {
+        for lot in Links(self.0) {
             total = (total + lot.row_count()).min(COUNTED);
-            chain = after;
         }
         total
     }
 
     fn cell_row_count(&self) -> usize {
-        let mut chain = self.0;
         let mut total = 0;
-        'walk: while let Some((lot, after)) = chain.split() {
+        for lot in Links(self.0) {
             total = (total + lot.cell_row_count()).min(COUNTED);
-            chain = after;
         }
         total
     }
 
     fn refused_row(&self, cells: Cells<'_>) -> Option<usize> {
-        let mut chain = self.0;
-        let mut rest = cells;
-        let mut passed = 0;
-        'walk: while let Some((lot, after)) = chain.split() {
-            if let Some(refused) = lot.refused_row(front_part(&lot, rest)) {
-                return Some(passed + refused);
+        for part in self.parts(cells) {
+            if let Some(refused) = part.lot.refused_row(part.cells) {
+                return Some(part.before + refused);
             }
-            passed += lot.row_count();
-            rest = rest_part(&lot, rest);
-            chain = after;
         }
         None
     }
 
     fn net(&self, cells: Cells<'_>, area: usize, quarter: usize) -> i64 {
-        let mut chain = self.0;
-        let mut rest = cells;
         let mut total = 0;
-        'walk: while let Some((lot, after)) = chain.split() {
-            let front = front_part(&lot, rest);
-            rest = rest_part(&lot, rest);
-            total += lot.net(front, area, quarter);
-            chain = after;
+        for part in self.parts(cells) {
+            total += part.lot.net(part.cells, area, quarter);
         }
         total
     }
 
     fn worth(&self, cells: Cells<'_>, row: usize) -> i64 {
-        let (lot, front, left) = lot_of_row(self.0, cells, row);
-        lot.worth(front, left)
+        let part = self.part_of_row(cells, row);
+        part.lot.worth(part.cells, row - part.before)
     }
 
     fn amount(&self, cells: Cells<'_>, prices: Prices<'_>, row: usize) -> i64 {
-        let (lot, front, left) = lot_of_row(self.0, cells, row);
-        lot.amount(front, prices, left)
+        let part = self.part_of_row(cells, row);
+        part.lot.amount(part.cells, prices, row - part.before)
     }
 
     fn best(&self, prices: Prices<'_>) -> i64 {
-        let mut chain = self.0;
         let mut total = 0;
-        'walk: while let Some((lot, after)) = chain.split() {
+        for lot in Links(self.0) {
             total += lot.best(prices);
-            chain = after;
         }
         total
     }
 
     fn broken_row(&self, cells: Cells<'_>, prices: Prices<'_>) -> Option<usize> {
-        let mut chain = self.0;
-        let mut rest = cells;
-        let mut passed = 0;
-        'walk: while let Some((lot, after)) = chain.split() {
-            if let Some(broken) = lot.broken_row(front_part(&lot, rest), prices) {
-                return Some(passed + broken);
+        for part in self.parts(cells) {
+            if let Some(broken) = part.lot.broken_row(part.cells, prices) {
+                return Some(part.before + broken);
             }
-            passed += lot.row_count();
-            rest = rest_part(&lot, rest);
-            chain = after;
         }
         None
     }
