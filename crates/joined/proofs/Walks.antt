@@ -1,7 +1,6 @@
 -- A walk over lots that are joined one after another: T is left of `all`, m is its first and n what comes after.
 -- Each invariant is a record so that its parameters are found from its type, and need not be written.
 use Rattle.std.proofs.Common.{◌≡◌, ℕ, ◌+◌, ◌-◌, ◌*◌, ◌<◌, ◌≤◌, min, List, take, drop, ℤ, pos, ◌+ℤ◌, nat_abs, Some, None, Option, sym, refl, ap, ◌∙◌, arith}
-use lib.IntN.{+ℤ_idl}
 use Rattle.std.proofs.lemmas.Int.{ints}
 use Rattle.std.specs.Option.{option_map}
 use Rattle.lot.specs.Meaning.{Meaning, Cells, Prices, Quoted, Capped, cell_rows, lot_net}

@@ -1,4 +1,4 @@
-use Rattle.std.proofs.Common.{◌≡◌, ◌-◌, ◌<◌, ◌≤◌, ap, ◌∙◌, subst, arith}
+use Rattle.std.proofs.Common.{◌-◌, ap, ◌∙◌, subst, arith}
 use Rattle.lot.specs.Page.{table_of}
 use Rattle.joined.proofs.Halves.{first_ready, rows_of_lem, worth_and_net, figures}
 use Rattle.joined.proofs.Walks.{Seeking, seeking_here, seeking_next}

@@ -1,7 +1,7 @@
-use Rattle.std.proofs.Common.{◌+◌, arith, ap, sym, ◌∙◌, Some}
+use Rattle.std.proofs.Common.{◌+◌, arith, ap, ◌∙◌, Some}
 use Rattle.lot.proofs.Splits.{priced_quoted}
 use Rattle.joined.proofs.Halves.{first_ready, breaks}
-use Rattle.joined.proofs.Walks.{passing_none, passing_below, passing_here, passing_next, passing_end}
+use Rattle.joined.proofs.Walks.{passing_below, passing_here, passing_next, passing_end}
 use Rattle.joined.proofs.chained.ChainedLot.broken_row.Goals as goal
 
 pub broken_row-requires : goal.broken_row-requires

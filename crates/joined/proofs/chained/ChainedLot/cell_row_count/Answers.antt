@@ -1,4 +1,4 @@
-use Rattle.std.proofs.Common.{refl, arith}
+use Rattle.std.proofs.Common.{arith}
 use Rattle.joined.proofs.Halves.{nothing_cells, cell_rows_of}
 use Rattle.joined.proofs.Walks.{counting_next, counting_end}
 use Rattle.joined.proofs.chained.ChainedLot.cell_row_count.Goals as goal

@@ -1,7 +1,7 @@
 use Rattle.std.proofs.Common.{refl, arith}
 use Rattle.std.proofs.lemmas.Int.{ints}
 use Rattle.joined.proofs.Halves.{first_ready}
-use Rattle.joined.proofs.Walks.{netting_none, netting_next, netting_within, netting_end}
+use Rattle.joined.proofs.Walks.{netting_next, netting_within, netting_end}
 use Rattle.joined.proofs.chained.ChainedLot.net.Goals as goal
 
 pub net-total-requires : goal.net-total-requires

@@ -1,7 +1,6 @@
-use Rattle.std.proofs.Common.{◌+◌, arith, ap, sym, ◌∙◌, Some}
-use Rattle.lot.proofs.Splits.{priced_quoted}
+use Rattle.std.proofs.Common.{◌+◌, arith, ap, ◌∙◌, Some}
 use Rattle.joined.proofs.Halves.{first_sized, refusals}
-use Rattle.joined.proofs.Walks.{passing_none, passing_below, passing_here, passing_next, passing_end}
+use Rattle.joined.proofs.Walks.{passing_below, passing_here, passing_next, passing_end}
 use Rattle.joined.proofs.chained.ChainedLot.refused_row.Goals as goal
 
 pub refused_row-requires : goal.refused_row-requires

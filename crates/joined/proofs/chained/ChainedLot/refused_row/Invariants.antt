@@ -1,4 +1,4 @@
-use Rattle.lot.specs.Page.{table_of, Sized}
+use Rattle.lot.specs.Page.{Sized}
 use Rattle.joined.proofs.Walks.{Passing}
 use Rattle.joined.proofs.chained.ChainedLot.refused_row.Given as goal
 

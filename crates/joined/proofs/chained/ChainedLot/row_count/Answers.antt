@@ -1,5 +1,5 @@
 use Rattle.std.proofs.Common.{refl, arith}
-use Rattle.joined.proofs.Halves.{nothing_cells, rows_of_lem}
+use Rattle.joined.proofs.Halves.{rows_of_lem}
 use Rattle.joined.proofs.Walks.{counting_next, counting_end}
 use Rattle.joined.proofs.chained.ChainedLot.row_count.Goals as goal
 
