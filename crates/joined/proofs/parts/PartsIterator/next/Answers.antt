@@ -1,6 +1,6 @@
 use Rattle.std.proofs.Common.{arith}
 use Rattle.joined.proofs.Halves.{asks, next_sized, rows_of_lem}
-use Rattle.joined.proofs.chained.PartsIterator.next.Goals as goal
+use Rattle.joined.proofs.parts.PartsIterator.next.Goals as goal
 
 pub front_part-cells-requires : goal.front_part-cells-requires
 front_part-cells-requires g c = asks c.in_ok-lot.ensures.step c.args.self.now.sized
