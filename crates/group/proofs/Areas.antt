@@ -1,6 +1,5 @@
 -- Bids of one area, and groups of them.
-use Rattle.std.proofs.Common.{Bool, Ok, Err, Result, Some, None, ◌==◌, ◌≡◌, ℕ, ◌<◌, true, false, ◌&&◌, List, [], ◌∷◌, length, get_or, sym, refl, ap, ◌∙◌, arith}
-use Rattle.std.proofs.lemmas.Bool.{eq-eqb}
+use Rattle.std.proofs.Common.{Bool, Ok, Err, Result, Some, None, ◌==◌, ◌≡◌, ℕ, true, false, ◌&&◌, List, [], ◌∷◌, sym, refl, ap, ◌∙◌}
 use Rattle.std.specs.List.{list_all}
 use Rattle.bid.specs.declared.lawful.Bid.{Bid}
 use Rattle.byte_layer.specs.declared.fault.Told.{Told}
@@ -12,16 +11,11 @@ use Rattle.units.proofs.Judged.{judged_ok, no_err, no_some}
 use Rattle.bid.specs.declared.size.GroupSize.{GroupSize}
 use Rattle.bid.specs.Lawful.{members_in}
 use Rattle.bid.specs.Group.{group_fine}
-use Rattle.group.specs.Group.{in_area, one_area}
+use Rattle.group.specs.Group.{in_area}
 
 pub in_area_is : (area : ℕ) (bs : List Bid) → list_all (λ b. b.fields.area == area) bs ≡ in_area area bs
 in_area_is area [] = refl
 in_area_is area (b ∷ bs) = ap (λ v. b.fields.area == area && v) (in_area_is area bs)
-
--- the first is of its own area
-pub one_area_is : (bs : List Bid) (b : Bid) → 0 < length bs → b ≡ get_or bs 0 b → in_area b.fields.area bs ≡ one_area bs
-one_area_is [] b h e = absurd (omega arith)
-one_area_is (x ∷ bs) b h e = ap (λ y. in_area y.fields.area (x ∷ bs)) e ∙ ap (λ v. v && in_area x.fields.area bs) (eq-eqb x.fields.area x.fields.area refl)
 
 -- the size that a number of members makes, or that it makes none
 pub size_made : (r : Result GroupSize FieldFault) (n : ℕ) → heard (told_field 0) (members_in r) ≡ judged 0 true (group_fine n) n → (s : GroupSize) → result_ok r ≡ Some s → s.members ≡ n

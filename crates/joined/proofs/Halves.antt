@@ -1,6 +1,6 @@
 -- Two lots as one: T is m, and then n. What m and n answer on their own parts of the cells, T answers on all of them.
 -- Parted is a record so that T, m and n are found from its type, and need not be written.
-use Rattle.std.proofs.Common.{◌≡◌, ℕ, ◌+◌, ◌-◌, ◌*◌, ◌<◌, ◌≤◌, min, List, ◌∷◌, length, get_or, take, drop, ℤ, pos, ◌+ℤ◌, Some, None, Option, sym, refl, ap, ◌∙◌, subst, ap₂, arith, drop-cons}
+use Rattle.std.proofs.Common.{◌≡◌, ℕ, ◌+◌, ◌-◌, ◌*◌, ◌<◌, ◌≤◌, min, List, ◌∷◌, length, take, drop, ℤ, pos, ◌+ℤ◌, Some, None, Option, sym, refl, ap, ◌∙◌, subst, ap₂, arith}
 use Rattle.lot.specs.Sum.{sum, count}
 use Rattle.lot.specs.Meaning.{Meaning, Cells, Prices, Quoted, cell_rows, lot_net, money, amount}
 use Rattle.lot.specs.Duties.{most_lot_rows}

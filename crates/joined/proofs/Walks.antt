@@ -1,7 +1,6 @@
 -- A walk over lots that are joined one after another: T is left of `all`, m is its first and n what comes after.
 -- Each invariant is a record so that its parameters are found from its type, and need not be written.
 use Rattle.std.proofs.Common.{◌≡◌, ℕ, ◌+◌, ◌-◌, ◌*◌, ◌<◌, ◌≤◌, min, List, take, drop, ℤ, pos, ◌+ℤ◌, nat_abs, Some, None, Option, sym, refl, ap, ◌∙◌, arith}
-use lib.IntN.{+ℤ_idl}
 use Rattle.std.proofs.lemmas.Int.{ints}
 use Rattle.std.specs.Option.{option_map}
 use Rattle.lot.specs.Meaning.{Meaning, Cells, Prices, Quoted, Capped, cell_rows, lot_net}
@@ -17,9 +16,6 @@ pub record Counting (f : Meaning → ℕ) (T all : Meaning) (total : ℕ) : Type
   pub small : total ≤ 4097
   pub same : min (total + f T) 4097 ≡ min (f all) 4097
 
-pub counting_none : (f : Meaning → ℕ) (all : Meaning) → Counting f all all 0
-counting_none f all = record { small = omega arith; same = omega arith }
-
 pub counting_next : {T m n : Meaning} → Parted T m n → {f : Meaning → ℕ} {all : Meaning} {total : ℕ} → Counting f T all total → f T ≡ f m + f n → (r x : ℕ) → r ≡ min (f m) 4097 → x ≡ min (total + r) 4097 → Counting f n all x
 counting_next _ inv e r x v u = let k = inv.small in let j = inv.same in record { small = omega arith; same = omega arith }
 
@@ -29,10 +25,6 @@ counting_end {f} inv e z = let k = inv.small in let j = inv.same in let y = ap f
 -- ---- the row that is named, with k rows before it
 abbrev raised : ℕ → Option ℕ → Option ℕ
 raised k o = option_map (λ r. k + r) o
-
-raised_none : (o : Option ℕ) → raised 0 o ≡ o
-raised_none None = refl
-raised_none (Some r) = ap Some (omega arith)
 
 raised_first : (k l : ℕ) (x y : Option ℕ) (r : ℕ) → x ≡ Some r → raised k (first_named l x y) ≡ Some (k + r)
 raised_first k l x y r e = ap (λ z. option_map (λ r. k + r) (first_named l z y)) e
@@ -47,9 +39,6 @@ pub record Passing (ask : Meaning → List ℕ → Type 0) (q : Meaning → Cell
   pub same : raised passed (q T (table_of rest)) ≡ q all (table_of cells)
 
 module _ {ask : Meaning → List ℕ → Type 0} {q : Meaning → Cells → Option ℕ} (naming : Naming ask q) where
-  pub passing_none : {all : Meaning} {cells : List ℕ} → ask all cells → Passing ask q all all cells cells 0
-  passing_none s = record { asked = s; rows = omega arith; same = raised_none _ }
-
   pub passing_end : {T all : Meaning} {rest cells : List ℕ} {passed : ℕ} → Passing ask q T all rest cells passed → T ≡ nothing → None ≡ q all (table_of cells)
   passing_end {rest = rest} {passed = passed} inv e = ap (raised passed) (sym (ap (λ M. q M (table_of rest)) e ∙ naming.none (table_of rest))) ∙ inv.same
 
@@ -61,24 +50,20 @@ module _ {ask : Meaning → List ℕ → Type 0} {q : Meaning → Cells → Opti
     passing_here r is = let s = drop (17 * cell_rows m) rest in
         sym (raised_first passed m.rows (q m (table_of f)) (q n (table_of s)) r (sym eo ∙ is)) ∙ ap (raised passed) (sym (naming.splits e rest f s ef refl)) ∙ inv.same
 
-    pub passing_next : o ≡ None → {s : List ℕ} → s ≡ drop (17 * cell_rows m) rest → (l : ℕ) → l ≡ min m.rows 4097 → Passing ask q n all s cells (passed + l)
-    passing_next is {s} es l el =
-        let k = rows_of_lem e in
+    pub passing_next : o ≡ None → {s : List ℕ} → s ≡ drop (17 * cell_rows m) rest → (k : ℕ) → k ≡ passed + m.rows → Passing ask q n all s cells k
+    passing_next is {s} es k ek =
+        let l = rows_of_lem e in
         let j = inv.rows in
-        let few = (naming.sized T rest inv.asked).few in
         record {
           asked = naming.next e rest s es inv.asked;
           rows = omega arith;
-          same = ap (λ i. raised (passed + i) (q n (table_of s))) (omega arith) ∙ sym (raised_next passed m.rows (q m (table_of f)) (q n (table_of s)) (sym eo ∙ is)) ∙ ap (raised passed) (sym (naming.splits e rest f s ef es)) ∙ inv.same;
+          same = ap (λ i. raised i (q n (table_of s))) ek ∙ sym (raised_next passed m.rows (q m (table_of f)) (q n (table_of s)) (sym eo ∙ is)) ∙ ap (raised passed) (sym (naming.splits e rest f s ef es)) ∙ inv.same;
         }
 
 -- ---- the power in one area and quarter
 pub record Netting (a t : ℕ) (T all : Meaning) (rest cells : List ℕ) (total : ℤ) : Type 0 where
   pub ready : Ready T rest
   pub same : total +ℤ lot_net T (table_of rest) a t ≡ lot_net all (table_of cells) a t
-
-pub netting_none : {a t : ℕ} {all : Meaning} {cells : List ℕ} → Ready all cells → Netting a t all all cells cells (pos 0)
-netting_none r = record { ready = r; same = +ℤ_idl _ }
 
 pub netting_next : {T m n : Meaning} → Parted T m n → {a t : ℕ} {all : Meaning} {rest f s cells : List ℕ} {total : ℤ} → Netting a t T all rest cells total → f ≡ take (17 * cell_rows m) rest → s ≡ drop (17 * cell_rows m) rest →
     (v x : ℤ) → v ≡ lot_net m (table_of f) a t → x ≡ total +ℤ v → Netting a t n all s cells x
@@ -106,9 +91,6 @@ pub record Topping (p : Prices) (T all : Meaning) (total : ℤ) : Type 0 where
   pub few : T.rows ≤ most_lot_rows
   pub same : total +ℤ T.best p ≡ all.best p
 
-pub topping_none : {p : Prices} {all : Meaning} → all.rows ≤ most_lot_rows → Topping p all all (pos 0)
-topping_none few = record { few = few; same = +ℤ_idl _ }
-
 pub topping_next : {T m n : Meaning} → Parted T m n → {p : Prices} {all : Meaning} {total : ℤ} → Topping p T all total → (v x : ℤ) → v ≡ m.best p → x ≡ total +ℤ v → Topping p n all x
 topping_next e {p} inv v x ev ex =
     let step = best_of_lem e p in let s = rows_of_lem e in let k = inv.few in let j = inv.same in record { few = omega arith; same = omega (arith, ints) }
@@ -123,9 +105,6 @@ topping_within {p} {T} {all} inv dT da quoted cap few =
     let k = inv.same in
     omega (arith, ints)
 
-pub topping_end : {p : Prices} {T all : Meaning} {total : ℤ} → Topping p T all total → T ≡ nothing → total ≡ all.best p
-topping_end {p} {T} inv e = let z : T.best p ≡ pos 0 = ap (λ M. M.best p) e in let k = inv.same in omega (arith, ints)
-
 -- ---- the figure of one row
 pub record Seeking {A : Type 0} (w : Meaning → Cells → ℕ → A) (T all : Meaning) (rest cells : List ℕ) (left row : ℕ) : Type 0 where
   pub ready : Ready T rest
@@ -135,13 +114,7 @@ pub record Seeking {A : Type 0} (w : Meaning → Cells → ℕ → A) (T all : M
 pub seeking_none : {A : Type 0} {w : Meaning → Cells → ℕ → A} {all : Meaning} {cells : List ℕ} {row : ℕ} → Ready all cells → row < all.rows → Seeking w all all cells cells row row
 seeking_none r h = record { ready = r; inside = h; same = refl }
 
-pub seeking_end : {A B : Type 0} {w : Meaning → Cells → ℕ → B} {T all : Meaning} {rest cells : List ℕ} {left row : ℕ} → Seeking w T all rest cells left row → T ≡ nothing → A
-seeking_end {T = T} inv e = let z : T.rows ≡ 0 = ap (λ M. M.rows) e in let k = inv.inside in absurd (omega arith)
-
 module _ {T m n : Meaning} (e : Parted T m n) {A : Type 0} {w : Meaning → Cells → ℕ → A} {all : Meaning} {rest cells : List ℕ} {left row : ℕ} (inv : Seeking w T all rest cells left row) (k : ℕ) (ek : k ≡ min m.rows 4097) where
-  pub seeking_below : left < k → left < m.rows
-  seeking_below h = omega arith
-
   pub seeking_here : Figure w → {f : List ℕ} → f ≡ take (17 * cell_rows m) rest → left < k → w m (table_of f) left ≡ w all (table_of cells) row
   seeking_here figure ef h = figure.first e rest _ ef left (omega arith) ∙ inv.same
 

@@ -1,8 +1,9 @@
-ghost use Rattle.std.specs.Prelude.{◌≡◌, ◌<◌};
-ghost use Rattle.lot.specs.Page.{table_of, Ready};
+ghost use Rattle.std.specs.Prelude.{◌≡◌, ◌-◌, ◌<◌, ◌≤◌};
+ghost use Rattle.lot.specs.Page.{table_of, Sized, Ready};
 
 use crate::chain::Chain;
-use crate::joined::{COUNTED, front_part, rest_part};
+use crate::joined::COUNTED;
+use crate::parts::{Links, Part, Parts};
 use lot::lot::Lot;
 use lot::views::{CappedPrices, Cells};
 
@@ -10,28 +11,38 @@ use lot::views::{CappedPrices, Cells};
 #[derive(Clone, Copy)]
 pub struct Chained<C>(pub C);
 
-// The lot that a row stands in, that lot's cells, and the row's number there.
-fn lot_of_row<'a, C: Chain>(lots: C, cells: Cells<'a>, row: usize) -> (C::Link, Cells<'a>, usize)
-    requires ready { Ready (C.Chain.meaning lots) cells.bytes.now }
-    requires row { row < (C.Chain.meaning lots).rows }
-    ensures ready { Ready (C.Link.Lot.meaning result.0) result.1.bytes.now }
-    ensures row { result.2 < (C.Link.Lot.meaning result.0).rows }
-    ensures worth { (C.Link.Lot.meaning result.0).worth (table_of result.1.bytes.now) result.2 ≡ (C.Chain.meaning lots).worth (table_of cells.entry.bytes.now) row }
-    ensures net { (C.Link.Lot.meaning result.0).net (table_of result.1.bytes.now) result.2 ≡ (C.Chain.meaning lots).net (table_of cells.entry.bytes.now) row }
-{
-    let mut chain = lots;
-    let mut rest = cells;
-    let mut left = row;
-    'walk: while let Some((lot, after)) = chain.split() {
-        let rows = lot.row_count();
-        if left < rows {
-            return (lot, front_part(&lot, rest), left);
+impl<C: Chain> Chained<C> {
+    // The parts of the cells, from the first lot's to the last's.
+    fn parts<'a>(&self, cells: Cells<'a>) -> Parts<'a, C>
+        requires { Sized (C.Chain.meaning self.now.0) cells.bytes.now }
+        ensures chain { result.chain ≡ self.now.0 }
+        ensures rest { result.rest.bytes.now ≡ cells.entry.bytes.now }
+        ensures passed { result.passed ≡ 0 }
+    {
+        Parts {
+            chain: self.0,
+            rest: cells,
+            passed: 0,
         }
-        left -= rows;
-        rest = rest_part(&lot, rest);
-        chain = after;
     }
-    unreachable()
+
+    // The part that a row stands in.
+    fn part_of_row<'a>(&self, cells: Cells<'a>, row: usize) -> Part<'a, C::Link>
+        requires ready { Ready (C.Chain.meaning self.now.0) cells.bytes.now }
+        requires row { row < (C.Chain.meaning self.now.0).rows }
+        ensures ready { Ready (C.Link.Lot.meaning result.lot) result.cells.bytes.now }
+        ensures before { result.before ≤ row }
+        ensures row { row - result.before < (C.Link.Lot.meaning result.lot).rows }
+        ensures worth { (C.Link.Lot.meaning result.lot).worth (table_of result.cells.bytes.now) (row - result.before) ≡ (C.Chain.meaning self.now.0).worth (table_of cells.entry.bytes.now) row }
+        ensures net { (C.Link.Lot.meaning result.lot).net (table_of result.cells.bytes.now) (row - result.before) ≡ (C.Chain.meaning self.now.0).net (table_of cells.entry.bytes.now) row }
+    {
+        for part in self.parts(cells) {
+            if row - part.before < part.lot.row_count() {
+                return part;
+            }
+        }
+        unreachable()
+    }
 }
 
 impl<C: Chain> Lot for Chained<C> {
@@ -48,84 +59,62 @@ impl<C: Chain> Lot for Chained<C> {
     ghost limited = { λ x. (C.Chain.duties x.0).limited };
 
     fn row_count(&self) -> usize {
-        let mut chain = self.0;
         let mut total = 0;
-        'walk: while let Some((lot, after)) = chain.split() {
+        for lot in Links(self.0) {
             total = (total + lot.row_count()).min(COUNTED);
-            chain = after;
         }
         total
     }
 
     fn cell_row_count(&self) -> usize {
-        let mut chain = self.0;
         let mut total = 0;
-        'walk: while let Some((lot, after)) = chain.split() {
+        for lot in Links(self.0) {
             total = (total + lot.cell_row_count()).min(COUNTED);
-            chain = after;
         }
         total
     }
 
+    // A `for` here and in `broken_row`: the closure of a `find_map` would have to state again what the question asks.
     fn refused_row(&self, cells: Cells<'_>) -> Option<usize> {
-        let mut chain = self.0;
-        let mut rest = cells;
-        let mut passed = 0;
-        'walk: while let Some((lot, after)) = chain.split() {
-            if let Some(refused) = lot.refused_row(front_part(&lot, rest)) {
-                return Some(passed + refused);
+        for part in self.parts(cells) {
+            if let Some(refused) = part.lot.refused_row(part.cells) {
+                return Some(part.before + refused);
             }
-            passed += lot.row_count();
-            rest = rest_part(&lot, rest);
-            chain = after;
         }
         None
     }
 
     fn net(&self, cells: Cells<'_>, area: usize, quarter: usize) -> i64 {
-        let mut chain = self.0;
-        let mut rest = cells;
         let mut total = 0;
-        'walk: while let Some((lot, after)) = chain.split() {
-            let front = front_part(&lot, rest);
-            rest = rest_part(&lot, rest);
-            total += lot.net(front, area, quarter);
-            chain = after;
+        for part in self.parts(cells) {
+            total += part.lot.net(part.cells, area, quarter);
         }
         total
     }
 
     fn worth(&self, cells: Cells<'_>, row: usize) -> i64 {
-        let (lot, front, left) = lot_of_row(self.0, cells, row);
-        lot.worth(front, left)
+        let part = self.part_of_row(cells, row);
+        part.lot.worth(part.cells, row - part.before)
     }
 
     fn amount(&self, cells: Cells<'_>, prices: CappedPrices<'_>, row: usize) -> i64 {
-        let (lot, front, left) = lot_of_row(self.0, cells, row);
-        lot.amount(front, prices, left)
+        let part = self.part_of_row(cells, row);
+        part.lot.amount(part.cells, prices, row - part.before)
     }
 
     fn best(&self, prices: CappedPrices<'_>) -> i64 {
-        let mut chain = self.0;
         let mut total = 0;
-        'walk: while let Some((lot, after)) = chain.split() {
+        for lot in Links(self.0) {
             total += lot.best(prices);
-            chain = after;
         }
         total
     }
 
     fn broken_row(&self, cells: Cells<'_>, prices: CappedPrices<'_>) -> Option<usize> {
-        let mut chain = self.0;
-        let mut rest = cells;
-        let mut passed = 0;
-        'walk: while let Some((lot, after)) = chain.split() {
-            if let Some(broken) = lot.broken_row(front_part(&lot, rest), prices) {
-                return Some(passed + broken);
+        for part in self.parts(cells) {
+            if let Some(broken) = part.lot.broken_row(part.cells, prices) {
+                return Some(part.before + broken);
             }
-            passed += lot.row_count();
-            rest = rest_part(&lot, rest);
-            chain = after;
         }
         None
     }

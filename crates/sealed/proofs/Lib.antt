@@ -1,4 +1,4 @@
-pub mod Rest
+pub mod Found
 pub mod Turns
 pub mod Gathering
 pub mod Splitting

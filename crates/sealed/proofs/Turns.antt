@@ -1,6 +1,6 @@
 -- A reader that goes on: the next row, and the rows after it.
 use Rattle.std.proofs.Common.{◌≡◌, ℕ, zero, suc, ◌+◌, ◌-◌, ◌<◌, ◌≤◌, Bool, true, false, cond, not, ◌&&◌, eqb, ltb, List, [], ◌∷◌, length, get_or, drop, Some, None, Ok, Err, Option, Result, sym, refl, ap, ◌∙◌, subst, arith, length-drop, ltb-false}
-use Rattle.std.proofs.lemmas.Bool.{and_parts, and_from, eqb-true, eq-eqb, lt-ltb, both_ways}
+use Rattle.std.proofs.lemmas.Bool.{and_parts, and_from, eqb-true, eq-eqb, both_ways}
 use Rattle.byte_layer.specs.declared.fault.Told.{Told}
 use Rattle.byte_layer.specs.Fault.{fault}
 use Rattle.units.specs.Limit.{is_area}
@@ -176,14 +176,6 @@ command_of_lem command.Border n t r e = rowed_of kind.Border command.Border (λ 
 command_of_lem command.Seal n t r e = no_none r e
 
 -- ---- members
--- where a member is due the row is a bid
-pub is_member : (s : Stand) (r : Row) → 0 < (due_of s) → (ltb 0 (due_of s) && not (is_bid (command_of r))) ≡ false → is_bid (command_of r) ≡ true
-is_member s r h e = by_test (is_bid (command_of r)) (ap (λ b. b && not (is_bid (command_of r))) (sym (lt-ltb 0 (due_of s) h)) ∙ e)
-  where
-    by_test : (b : Bool) → (true && not b) ≡ false → b ≡ true
-    by_test true e = refl
-    by_test false e = let z : ◌≡◌ {A = ℕ} 0 1 = cc in absurd (omega arith)
-
 pub no_member : {P : Type 0} → false ≡ true → P
 no_member e = let z : ◌≡◌ {A = ℕ} 0 1 = cc in absurd (omega arith)
 

@@ -25,14 +25,6 @@ impl<'a> SealedBook<'a> {
     }
 }
 
-// The text from a place on.
-fn from_place(text: &[u8], place: usize) -> &[u8]
-    requires { place ≤ length text.now }
-    ensures { result.now ≡ drop place text.now }
-{
-    &text[place..]
-}
-
 impl<'a> Rows<'a> {
     // The rows behind a row that was read.
     fn behind(self, row: &Row, next: Stand) -> Rows<'a>
@@ -41,7 +33,7 @@ impl<'a> Rows<'a> {
         ensures stand { result.stand ≡ next }
     {
         Rows {
-            rest: from_place(self.rest, row.size()),
+            rest: &self.rest[row.size()..],
             stand: next,
             left: self.left - 1,
         }

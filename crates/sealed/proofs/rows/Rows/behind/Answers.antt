@@ -1,4 +1,4 @@
-use Rattle.std.proofs.Common.{◌≡◌, ℕ, ◌+◌, ◌-◌, ◌<◌, true, List, length, drop, sym, ap, ◌∙◌, subst, arith, length-drop}
+use Rattle.std.proofs.Common.{◌≡◌, ℕ, ◌+◌, ◌-◌, ◌<◌, true, List, length, take, drop, sym, ap, ◌∙◌, subst, arith, length-drop, take_all, rules}
 use Rattle.book.specs.Rows.{row_size}
 use Rattle.book.proofs.Steps.{step_moves}
 use Rattle.sealed.specs.Ahead.{reads_on, ahead}
@@ -6,12 +6,15 @@ use Rattle.sealed.specs.Lot.{lawful_rows}
 use Rattle.sealed.proofs.Turns.{on_reads, on_rows, lawful_rest}
 use Rattle.sealed.proofs.rows.Rows.behind.Goals as goal
 
-pub from_place-requires : goal.from_place-requires
-from_place-requires c =
+pub slice_bounds-result-count : goal.slice_bounds-result-count
+slice_bounds-result-count c =
     let x = c.args.self in
     let m = (step_moves x.stand x.rest.now c.args.row.now c.args.next c.requires).fits in
     let e = c.size.ensures in
     omega arith
+
+pub slice_bounds-result-start : goal.slice_bounds-result-start
+slice_bounds-result-start c = let h = slice_bounds-result-count c in search rules
 
 pub overflow_sub-result : goal.overflow_sub-result
 overflow_sub-result c =
@@ -26,7 +29,7 @@ invariant_of-result c =
     let t = x.rest.now in
     let r = c.args.row.now in
     let n = c.args.next in
-    let e : drop (row_size r) t ≡ c.from_place.result.now = sym (c.from_place.ensures ∙ ap (λ k. drop k t) c.size.ensures) in
+    let e : drop (row_size r) t ≡ take (length t - c.size.result) (drop c.size.result t) = ap (λ k. drop k t) (sym c.size.ensures) ∙ sym (take_all _ _ (simp length-drop (omega arith))) in
     let rows = on_rows x.stand t r n c.requires x.sound in
     let m = step_moves x.stand t r n c.requires in
     let fits = m.fits in

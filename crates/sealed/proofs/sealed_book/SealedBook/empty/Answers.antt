@@ -1,6 +1,6 @@
 use Rattle.std.proofs.Common.{ap}
 use Rattle.sealed.specs.Book.{passes, found_in}
-use Rattle.sealed.proofs.Rest.{seal_checks}
+use Rattle.sealed.proofs.Found.{seal_checks}
 use Rattle.sealed.proofs.Turns.{seal_lawful}
 use Rattle.sealed.proofs.sealed_book.SealedBook.empty.Goals as goal
 

@@ -3,7 +3,7 @@ use Rattle.book.specs.declared.stand.Stand.{Stand}
 use Rattle.book.specs.Reading.{checked}
 use Rattle.sealed.specs.Ahead.{reads_on, ahead}
 use Rattle.sealed.specs.Lot.{lawful_rows}
-use Rattle.sealed.proofs.Rest.{kept_rows, passed_is}
+use Rattle.sealed.proofs.Found.{kept_rows, passed_is}
 use Rattle.sealed.proofs.Turns.{passed_reads, begin_rows}
 use Rattle.sealed.proofs.sealed_book.SealedBook.iter.Goals as goal
 

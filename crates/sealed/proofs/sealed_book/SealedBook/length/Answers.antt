@@ -1,6 +1,6 @@
 use Rattle.std.proofs.Common.{ℕ, Ok, ap, ◌∙◌}
 use Rattle.book.specs.Reading.{checked}
-use Rattle.sealed.proofs.Rest.{kept_rows, passed_is}
+use Rattle.sealed.proofs.Found.{kept_rows, passed_is}
 use Rattle.sealed.proofs.sealed_book.SealedBook.length.Goals as goal
 
 pub returns : goal.returns

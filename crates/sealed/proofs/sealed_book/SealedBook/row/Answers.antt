@@ -4,7 +4,7 @@ use Rattle.std.proofs.lemmas.Iterator.Adapters.{option_map_id}
 use Rattle.std.proofs.lemmas.Iterator.Consumers.{YieldsList-from_first, nth_from_yields_List}
 use Rattle.book.specs.Reading.{checked, rows_in}
 use Rattle.sealed.specs.Left.{rows_left}
-use Rattle.sealed.proofs.Rest.{kept_rows, passed_is}
+use Rattle.sealed.proofs.Found.{kept_rows, passed_is}
 use Rattle.sealed.proofs.sealed_book.SealedBook.row.Goals as goal
 
 pub returns-then-i-self : goal.returns-then-i-self

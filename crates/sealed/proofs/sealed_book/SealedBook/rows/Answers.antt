@@ -1,5 +1,5 @@
 use Rattle.book.specs.Reading.{checked}
-use Rattle.sealed.proofs.Rest.{kept_rows, passed_is}
+use Rattle.sealed.proofs.Found.{kept_rows, passed_is}
 use Rattle.sealed.proofs.sealed_book.SealedBook.rows.Goals as goal
 
 pub returns : goal.returns
