@@ -1,5 +1,5 @@
 -- Questions to a lot of a single row, from what its four cells tell.
-use Rattle.std.proofs.Common.{◌≡◌, ℕ, ◌^◌, ◌<◌, ◌≤◌, min, Bool, true, false, not, cond, List, length, ℤ, pos, negsuc, nat_abs, ◌≤ℤ◌, ◌<ℤ◌, Some, None, Option, sym, refl, ap, ◌∙◌, subst, arith, w32, w64, to_z, of_z}
+use Rattle.std.proofs.Common.{◌≡◌, ℕ, ◌^◌, ◌<◌, ◌≤◌, min, Bool, true, false, not, cond, List, length, ℤ, pos, negsuc, nat_abs, Some, None, sym, refl, ap, ◌∙◌, subst, arith, w32, w64, to_z, of_z}
 use lib.Signed.{le_z, lt_z}
 use Rattle.std.specs.Bool.{then_some}
 use Rattle.std.specs.Int.{int_max}
@@ -10,7 +10,6 @@ use Rattle.lot.specs.Page.{table_of, four, at, Within, AllWithin, Sized, Ready}
 use Rattle.lot.specs.Single.{Single, single}
 use Rattle.lot.specs.Laws.Sums.{sum_one}
 use Rattle.lot.specs.Laws.Singles.{single_cells, single_admits}
-use Rattle.lot.specs.Laws.Tests.{le_of_test, test_of_le}
 use Rattle.lot.proofs.Machine.{all_within}
 use Rattle.lot.proofs.Terms.{row_at}
 

@@ -157,3 +157,14 @@ module _ {A : Type 0} (test : A → Bool) (xs : List A) (d : A) (four : length x
 pub all_of_zip : {A B : Type 0} (test : A × B → Bool) (xs : List A) (ys : List B) (d : A) (e : B) → length xs ≡ 4 → length ys ≡ 4
     → list_all test (zip xs ys) ≡ every 4 (λ t. test (slice_index_or xs t d, slice_index_or ys t e))
 all_of_zip test xs ys d e h k = (λ i. list_all test (zip (quad_of xs d h i) (quad_of ys e k i))) ∙ all_quad test (λ t. (slice_index_or xs t d, slice_index_or ys t e))
+
+pub all_in_turn : {A : Type 0} (test : A → Bool) (xs : List A) (d : A) → length xs ≡ 4
+    → list_all test xs ≡ (test (slice_index_or xs 0 d) && (test (slice_index_or xs 1 d) && (test (slice_index_or xs 2 d) && test (slice_index_or xs 3 d))))
+all_in_turn test xs d four = ap (list_all test) (quad_of xs d four) ∙ turns (test (slice_index_or xs 0 d)) (test (slice_index_or xs 1 d)) (test (slice_index_or xs 2 d)) (test (slice_index_or xs 3 d))
+  where
+    turns : (a b c e : Bool) → (a && (b && (c && (e && true)))) ≡ (a && (b && (c && e)))
+    turns true true true true = refl
+    turns true true true false = refl
+    turns true true false e = refl
+    turns true false c e = refl
+    turns false b c e = refl

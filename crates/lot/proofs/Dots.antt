@@ -1,5 +1,5 @@
 -- A sum of four, as a chain of iterators gives it.
-use Rattle.std.proofs.Common.{◌≡◌, ℕ, zero, suc, ◌*◌, ◌^◌, ◌<◌, ◌≤◌, List, [], ◌∷◌, map, take, fold, length, ℤ, pos, ◌+ℤ◌, ◌*ℤ◌, nat_abs, Option, w64, sym, refl, ap, ◌∙◌, subst, arith, lit≤, mul-le-mul_left}
+use Rattle.std.proofs.Common.{◌≡◌, ℕ, zero, suc, ◌*◌, ◌^◌, ◌<◌, ◌≤◌, List, [], ◌∷◌, map, take, fold, length, ℤ, pos, ◌+ℤ◌, nat_abs, Option, w64, sym, refl, ap, ◌∙◌, subst, arith, lit≤, mul-le-mul_left}
 use Rattle.std.proofs.lemmas.Int.{ints}
 use Rattle.std.proofs.lemmas.Iterator.{YieldsList, items_from_drains}
 use Rattle.std.specs.Iterator.{Yields, AlwaysYields, Drains}
