@@ -1,6 +1,6 @@
-ghost use Rattle.std.specs.Prelude.{◌≡◌, ◌&&◌, pos, ◌*ℤ◌, int_le};
+ghost use Rattle.std.specs.Prelude.{◌≡◌, ◌<◌, ◌&&◌, pos, ◌*ℤ◌, int_le};
 ghost use Rattle.units.specs.Side.{is_upward};
-ghost use Rattle.lot.specs.Sum.{same_z};
+ghost use Rattle.lot.specs.Sum.{every, same_z};
 ghost use Rattle.lot.specs.Direction.{towards, TermsOf};
 ghost use Rattle.lot.specs.Page.{at, four, AllWithin};
 ghost use Rattle.lot.specs.Single.{single};
@@ -12,7 +12,7 @@ ghost use Rattle.bid.specs.Laws.Bids.{bid_duties};
 use crate::fields::BidQuarter;
 use crate::lawful::Bid;
 use lot::lot::Lot;
-use lot::quarters::{all_four, dot, is_idle, product};
+use lot::quarters::{dot, is_idle, product};
 use lot::trade::{Direction, TradeTerms};
 use lot::views::{CappedPrices, Cells};
 use units::side::Side;
@@ -31,7 +31,7 @@ fn direction(side: Side) -> Direction
 fn between(cell: i32, quarter: &BidQuarter) -> bool
     ensures { result ≡ (int_le (pos quarter.now.minimum) cell && int_le cell (pos quarter.now.maximum)) }
 {
-    cell as i64 >= quarter.minimum as i64 && cell as i64 <= quarter.maximum as i64
+    (i64::from(quarter.minimum)..=i64::from(quarter.maximum)).contains(&i64::from(cell))
 }
 
 // Are two cells one share of their maxima?
@@ -41,10 +41,12 @@ fn share(cell: i32, other_most: i32, other: i32, most: i32) -> bool
     product(cell, other_most) == product(other, most)
 }
 
-fn all_three(a: bool, b: bool, c: bool) -> bool
-    ensures { result ≡ ((a && b) && c) }
+// Is a cell in one share with each cell before it?
+fn shares_before(cells: &[i32; 4], most: &[i32; 4], t: usize) -> bool
+    requires { t < 4 }
+    ensures { result ≡ every t (λ u. same_z (at cells.now t *ℤ at most.now u) (at cells.now u *ℤ at most.now t)) }
 {
-    a && b && c
+    (0..t).all(|u| share(cells[t], most[u], cells[u], most[t]))
 }
 
 impl Bid {
@@ -53,8 +55,7 @@ impl Bid {
         ensures same { result ≡ four (bid_trade self.now.fields).limit }
         ensures within { AllWithin 9999999 result }
     {
-        let [a, b, c, d] = &self.fields.quarters;
-        [a.price, b.price, c.price, d.price]
+        self.fields.quarters.map(|quarter| quarter.price)
     }
 
     // The maxima by quarter.
@@ -62,31 +63,23 @@ impl Bid {
         ensures same { result ≡ four (most self.now.fields) }
         ensures within { AllWithin 99999 result }
     {
-        let [a, b, c, d] = &self.fields.quarters;
-        [
-            a.maximum as i32,
-            b.maximum as i32,
-            c.maximum as i32,
-            d.maximum as i32,
-        ]
+        self.fields.quarters.map(|quarter| quarter.maximum as i32)
     }
 
     fn in_range(&self, cells: &[i32; 4]) -> bool
         ensures { result ≡ in_range self.now.fields (at cells.now) }
     {
-        let [a, b, c, d] = *cells;
-        let [w, x, y, z] = &self.fields.quarters;
-        all_four(between(a, w), between(b, x), between(c, y), between(d, z))
+        cells
+            .iter()
+            .zip(&self.fields.quarters)
+            .all(|(cell, quarter)| between(*cell, quarter))
     }
 
     fn in_ratio(&self, cells: &[i32; 4]) -> bool
         ensures { result ≡ in_ratio self.now.fields (at cells.now) }
     {
-        let [a, b, c, d] = *cells;
-        let [w, x, y, z] = self.maxima();
-        let first = all_three(share(a, x, b, w), share(a, y, c, w), share(a, z, d, w));
-        let rest = all_three(share(b, y, c, x), share(b, z, d, x), share(c, z, d, y));
-        all_three(first, rest, true)
+        let most = self.maxima();
+        (0..4).all(|t| shares_before(cells, &most, t))
     }
 
     // All zero, or each in its range and all in one ratio.
@@ -130,11 +123,7 @@ impl Lot for Bid {
     }
 
     fn refused_row(&self, cells: Cells<'_>) -> Option<usize> {
-        if self.admits(&cells.row(0)) {
-            None
-        } else {
-            Some(0)
-        }
+        (!self.admits(&cells.row(0))).then_some(0)
     }
 
     fn net(&self, cells: Cells<'_>, area: usize, quarter: usize) -> i64 {
@@ -156,6 +145,6 @@ impl Lot for Bid {
 
     fn broken_row(&self, cells: Cells<'_>, prices: CappedPrices<'_>) -> Option<usize> {
         let surplus = dot(&cells.row(0), &self.terms().gains(prices));
-        if surplus >= 0 { None } else { Some(0) }
+        (surplus < 0).then_some(0)
     }
 }

@@ -33,14 +33,12 @@ fn quarter_fine(q: &BidQuarter) -> bool
 fn bid_offers(qs: &[BidQuarter; 4]) -> bool
     ensures { result ≡ bid_offers qs.now }
 {
-    let [a, b, c, d] = qs;
-    a.maximum > 0 || b.maximum > 0 || c.maximum > 0 || d.maximum > 0
+    qs.iter().any(|q| q.maximum > 0)
 }
 
 // Every rule of a bid's fields but the one on its area.
 pub fn bid_fine(qs: &[BidQuarter; 4]) -> bool
     ensures { result ≡ bid_fine qs.now }
 {
-    let [a, b, c, d] = qs;
-    quarter_fine(a) && quarter_fine(b) && quarter_fine(c) && quarter_fine(d) && bid_offers(qs)
+    qs.iter().all(quarter_fine) && bid_offers(qs)
 }

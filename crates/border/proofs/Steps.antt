@@ -1,18 +1,17 @@
 -- A border's steps at the prices of a page: areas and prices are in range, and gaps are small.
-use Rattle.std.proofs.Common.{◌≡◌, ℕ, suc, ◌+◌, ◌*◌, ◌^◌, ◌<◌, ◌≤◌, Bool, List, [], ◌∷◌, length, ℤ, pos, ◌+ℤ◌, ◌-ℤ◌, ◌*ℤ◌, neg_ℤ, nat_abs, sym, refl, ap, ◌∙◌, subst, ap₂, le_trans, mul-suc, arith, lit<, lit≤, w32, w64, SFits, to_z, of_z}
+use Rattle.std.proofs.Common.{◌≡◌, ℕ, suc, ◌+◌, ◌*◌, ◌<◌, ◌≤◌, List, [], ◌∷◌, length, ℤ, pos, ◌+ℤ◌, ◌-ℤ◌, ◌*ℤ◌, neg_ℤ, nat_abs, sym, refl, ap, ◌∙◌, subst, ap₂, le_trans, mul-suc, arith, lit<, lit≤, w32, w64, SFits, to_z, of_z}
 use Rattle.std.specs.List.{AllByRecursion}
 use Rattle.std.specs.Int.{int_max}
-use Rattle.std.proofs.lemmas.Int.{ints, clamps, to_z-of_z}
+use Rattle.std.proofs.lemmas.Int.{ints, clamps}
 use Rattle.units.specs.Limit.{cap, most_quantity}
 use Rattle.lot.specs.Page.{table_of, Within, Priced}
 use Rattle.lot.specs.Laws.Ring.{abs_mul_le}
-use Rattle.lot.proofs.Machine.{within_more, back64}
-use Rattle.border.specs.declared.step.Step.TheVariants.{One, Two}
+use Rattle.border.specs.declared.step.Step.TheVariants.{Two}
 use Rattle.border.specs.declared.fields.BorderFields.{BorderFields}
 use Rattle.border.specs.declared.lawful.Border.{Border}
 use Rattle.border.specs.declared.stretch.Stretch.{Stretch}
-use Rattle.border.specs.Stretch.{both, stretch_best, stretch_keeps}
-use Rattle.border.specs.Flow.{Block, blocks, total_from, least, total, sum_over, every_of, forward_at, back_at, gap_at, stretch, flowing}
+use Rattle.border.specs.Stretch.{both, stretch_best}
+use Rattle.border.specs.Flow.{Block, blocks, total_from, least, total, sum_over, forward_at, back_at, gap_at, stretch, flowing}
 use Rattle.border.specs.Laws.Flows.{Lawful, lawful, least_le, small_gap}
 
 pub lawful_fields : (x : Border) → Lawful x.fields
@@ -87,9 +86,6 @@ module _ (x : Border) (b : List ℕ) (priced : Priced b) where
   pub rented_half : (t u : ℕ) → t < 4 → u < 4 → {s : Stretch} {r : ℤ} → s ≡ stretch x.fields (table_of b) (t, u ∷ []) → r ≡ stretch_best s → Rented (t, u ∷ []) r
   rented_half t u l m {s} {r} e h = rented (t, u ∷ []) (l, (m, tt)) (lit≤ tt) s e r h
 
-  pub rented_small : {k : Block} {r : ℤ} → Rented k r → Within (2 ^ 60) (to_z w64 (of_z w64 r))
-  rented_small h = subst (Within (2 ^ 60)) (sym (back64 h.near (lit< tt))) (within_more h.near (lit≤ tt))
-
   pub two_fit : {k l : Block} {r s : ℤ} → Rented k r → Rented l s → SFits w64 (to_z w64 (of_z w64 r) +ℤ to_z w64 (of_z w64 s))
   two_fit {r = r} {s = s} h g = fit r s h.near.size g.near.size
     where
@@ -97,15 +93,6 @@ module _ (x : Border) (b : List ℕ) (priced : Priced b) where
       fit u v h k = omega (arith, ints)
 
   -- the rents of the steps, summed as code sums them
-  pub rents_in_one : x.fields.step ≡ One → {r h i j k : ℤ} → Rented (0, []) h → Rented (1, []) i → Rented (2, []) j → Rented (3, []) k
-      → r ≡ to_z w64 (of_z w64 h) +ℤ to_z w64 (of_z w64 i) +ℤ to_z w64 (of_z w64 j) +ℤ to_z w64 (of_z w64 k) → to_z w64 (of_z w64 r) ≡ (flowing x.fields).best (table_of b)
-  rents_in_one one {r} {h} {i} {j} {k} u v w z e = last r h i j k u.near.size v.near.size w.near.size z.near.size e
-      ∙ (λ n. u.is n +ℤ (v.is n +ℤ (w.is n +ℤ (z.is n +ℤ pos 0)))) ∙ ap (λ s. sum_over (blocks s) (λ m. stretch_best (stretch x.fields (table_of b) m))) (sym one)
-    where
-      last : (r h i j k : ℤ) → nat_abs h ≤ 99999000000000 → nat_abs i ≤ 99999000000000 → nat_abs j ≤ 99999000000000 → nat_abs k ≤ 99999000000000
-          → r ≡ to_z w64 (of_z w64 h) +ℤ to_z w64 (of_z w64 i) +ℤ to_z w64 (of_z w64 j) +ℤ to_z w64 (of_z w64 k) → to_z w64 (of_z w64 r) ≡ h +ℤ (i +ℤ (j +ℤ (k +ℤ pos 0)))
-      last r h i j k u v w z e = omega (arith, ints)
-
   pub rents_in_two : x.fields.step ≡ Two → {h i : ℤ} → Rented (0, 1 ∷ []) h → Rented (2, 3 ∷ []) i
       → to_z w64 (of_z w64 (to_z w64 (of_z w64 h) +ℤ to_z w64 (of_z w64 i))) ≡ (flowing x.fields).best (table_of b)
   rents_in_two two {h} {i} u v = last h i u.near.size v.near.size
@@ -113,12 +100,3 @@ module _ (x : Border) (b : List ℕ) (priced : Priced b) where
     where
       last : (h i : ℤ) → nat_abs h ≤ 99999000000000 → nat_abs i ≤ 99999000000000 → to_z w64 (of_z w64 (to_z w64 (of_z w64 h) +ℤ to_z w64 (of_z w64 i))) ≡ h +ℤ (i +ℤ pos 0)
       last h i u v = omega (arith, ints)
-
-  -- the price rule of one quarter, as a call gives it
-  pub kept_at : (k : Block) {s : Stretch} {q : ℤ} {r : Bool} → s ≡ stretch x.fields (table_of b) k → SFits w32 q → r ≡ stretch_keeps s (to_z w32 (of_z w32 q)) → r ≡ stretch_keeps (stretch x.fields (table_of b) k) q
-  kept_at k {s} {q} e f h = h ∙ ap₂ stretch_keeps e (to_z-of_z w32 q f)
-
-  pub kept_in_one : x.fields.step ≡ One → (q : ℕ → ℤ) {r h i j k : Bool} → r ≡ every_of (h ∷ i ∷ j ∷ k ∷ []) (λ y. y)
-      → h ≡ stretch_keeps (stretch x.fields (table_of b) (0, [])) (q 0) → i ≡ stretch_keeps (stretch x.fields (table_of b) (1, [])) (q 1)
-      → j ≡ stretch_keeps (stretch x.fields (table_of b) (2, [])) (q 2) → k ≡ stretch_keeps (stretch x.fields (table_of b) (3, [])) (q 3) → r ≡ (flowing x.fields).keeps q (table_of b)
-  kept_in_one one q e u v w z = e ∙ (λ n. every_of (u n ∷ v n ∷ w n ∷ z n ∷ []) (λ y. y)) ∙ ap (λ s. every_of (blocks s) (λ m. stretch_keeps (stretch x.fields (table_of b) m) (q m.0))) (sym one)

@@ -58,3 +58,7 @@ pub best_is : (s : Stretch) → Fits w32 s.forward → Fits w32 s.back → SFits
 best_is s f b g x y z ex ey ez =
     greater x y z (passed_within s.forward s.gap f g x ex) (passed_within s.back s.gap b g y ey) ez
     ∙ ap₂ (λ u v. int_max u (neg_ℤ v)) (passed s.forward s.gap f g x ex) (passed s.back s.gap b g y ey)
+
+-- minus an unsigned number of 32 bits, through the bits of 64
+pub minus_is : (n : ℕ) (z : ℤ) → Fits w32 n → z ≡ pos n → to_z w64 (of_z w64 (pos 0 -ℤ to_z w64 (of_z w64 z))) ≡ neg_ℤ (pos n)
+minus_is n z h e = omega (arith, ints)

@@ -34,7 +34,7 @@ impl Lot for Border {
 
     fn refused_row(&self, cells: Cells<'_>) -> Option<usize> {
         let flow = cells.row(0);
-        if self.admits(&flow) { None } else { Some(0) }
+        (!self.admits(&flow)).then_some(0)
     }
 
     fn net(&self, cells: Cells<'_>, area: usize, quarter: usize) -> i64 {
@@ -61,10 +61,6 @@ impl Lot for Border {
 
     fn broken_row(&self, cells: Cells<'_>, prices: CappedPrices<'_>) -> Option<usize> {
         let flow = cells.row(0);
-        if self.keeps_rule(&flow, prices) {
-            None
-        } else {
-            Some(0)
-        }
+        (!self.keeps_rule(&flow, prices)).then_some(0)
     }
 }

@@ -37,6 +37,5 @@ fn quarter_fine(q: &BorderQuarter) -> bool
 pub fn border_fine(qs: &[BorderQuarter; 4]) -> bool
     ensures { result ≡ border_fine qs.now }
 {
-    let [a, b, c, d] = qs;
-    quarter_fine(a) && quarter_fine(b) && quarter_fine(c) && quarter_fine(d)
+    qs.iter().all(quarter_fine)
 }

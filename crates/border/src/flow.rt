@@ -1,12 +1,11 @@
 ghost use Rattle.std.specs.Prelude.{◌≡◌, ℕ, ◌+◌, ◌<◌, [], ◌∷◌};
 ghost use Rattle.lot.specs.Page.{at, table_of};
-ghost use Rattle.border.specs.Flow.{every_of, steady, passes, carried, stretch, flowing};
+ghost use Rattle.border.specs.Flow.{steady, passes, carried, stretch, flowing};
 
 use crate::fields::BorderQuarter;
 use crate::lawful::Border;
 use crate::step::Step;
 use crate::stretch::Stretch;
-use lot::quarters::add_four;
 use lot::views::CappedPrices;
 
 // Whether a flow is the same within each step.
@@ -25,26 +24,18 @@ fn steady(step: Step, flow: &[i32; 4]) -> bool
 fn passes(quarter: &BorderQuarter, flow: i32) -> bool
     ensures { result ≡ passes quarter.now.forward quarter.now.back flow }
 {
-    -(quarter.back as i64) <= flow as i64 && flow as i64 <= quarter.forward as i64
-}
-
-fn all_four(a: bool, b: bool, c: bool, d: bool) -> bool
-    ensures { result ≡ every_of (a ∷ b ∷ c ∷ d ∷ []) (λ x. x) }
-{
-    a && b && c && d
+    (-i64::from(quarter.back)..=i64::from(quarter.forward)).contains(&i64::from(flow))
 }
 
 impl Border {
     pub(crate) fn admits(&self, flow: &[i32; 4]) -> bool
         ensures { result ≡ (flowing self.now.fields).admits (at flow.now) }
     {
-        let [a, b, c, d] = *flow;
-        let [w, x, y, z] = &self.fields.quarters;
         steady(self.fields.step, flow)
-            && passes(w, a)
-            && passes(x, b)
-            && passes(y, c)
-            && passes(z, d)
+            && flow
+                .iter()
+                .zip(&self.fields.quarters)
+                .all(|(flow, quarter)| passes(quarter, *flow))
     }
 
     // What a flow puts into an area.
@@ -52,9 +43,9 @@ impl Border {
         ensures { result ≡ carried self.now.fields area flow }
     {
         if area == self.fields.from as usize {
-            -(flow as i64)
+            -i64::from(flow)
         } else if area == self.fields.to as usize {
-            flow as i64
+            i64::from(flow)
         } else {
             0
         }
@@ -100,13 +91,7 @@ impl Border {
         ensures { result ≡ (flowing self.now.fields).best (table_of prices.entry.bytes.now) }
     {
         match self.fields.step {
-            Step::One => {
-                let first = self.quarter(prices, 0).best();
-                let second = self.quarter(prices, 1).best();
-                let third = self.quarter(prices, 2).best();
-                let fourth = self.quarter(prices, 3).best();
-                add_four(first, second, third, fourth)
-            }
+            Step::One => (0..4).map(|t| self.quarter(prices, t).best()).sum(),
             Step::Two => {
                 let former = self.half(prices, 0).best();
                 let latter = self.half(prices, 2).best();
@@ -120,17 +105,10 @@ impl Border {
     pub(crate) fn keeps_rule(&self, flow: &[i32; 4], prices: CappedPrices<'_>) -> bool
         ensures { result ≡ (flowing self.now.fields).keeps (at flow.now) (table_of prices.entry.bytes.now) }
     {
-        let [a, b, c, d] = *flow;
         match self.fields.step {
-            Step::One => {
-                let first = self.quarter(prices, 0).keeps(a);
-                let second = self.quarter(prices, 1).keeps(b);
-                let third = self.quarter(prices, 2).keeps(c);
-                let fourth = self.quarter(prices, 3).keeps(d);
-                all_four(first, second, third, fourth)
-            }
-            Step::Two => self.half(prices, 0).keeps(a) && self.half(prices, 2).keeps(c),
-            Step::Four => self.hour(prices).keeps(a),
+            Step::One => (0..4).all(|t| self.quarter(prices, t).keeps(flow[t])),
+            Step::Two => self.half(prices, 0).keeps(flow[0]) && self.half(prices, 2).keeps(flow[2]),
+            Step::Four => self.hour(prices).keeps(flow[0]),
         }
     }
 }

@@ -44,8 +44,8 @@ impl Stretch {
     pub fn keeps(self, flow: i32) -> bool
         ensures { result ≡ stretch_keeps self flow }
     {
-        let full = self.forward as i64 <= flow as i64;
-        let full_back = flow as i64 <= -(self.back as i64);
+        let full = i64::from(self.forward) <= i64::from(flow);
+        let full_back = i64::from(flow) <= -i64::from(self.back);
         (full || self.gap <= 0) && (full_back || 0 <= self.gap)
     }
 }

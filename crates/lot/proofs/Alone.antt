@@ -1,16 +1,22 @@
 -- Questions to a lot of a single row, from what its four cells tell.
-use Rattle.std.proofs.Common.{◌≡◌, ℕ, ◌^◌, ◌<◌, ◌≤◌, min, Bool, true, false, cond, List, length, ℤ, pos, nat_abs, ◌≤ℤ◌, ◌<ℤ◌, Some, None, Option, sym, refl, ap, ◌∙◌, subst, arith, w32, w64, to_z, of_z}
-use lib.Signed.{le_z}
+use Rattle.std.proofs.Common.{◌≡◌, ℕ, ◌^◌, ◌<◌, ◌≤◌, min, Bool, true, false, not, cond, List, length, ℤ, pos, negsuc, nat_abs, Some, None, sym, refl, ap, ◌∙◌, subst, arith, w32, w64, to_z, of_z}
+use lib.Signed.{le_z, lt_z}
+use Rattle.std.specs.Bool.{then_some}
 use Rattle.std.specs.Int.{int_max}
 use Rattle.std.proofs.lemmas.Int.{ints, clamps}
+use Rattle.std.proofs.lemmas.Bool.{le-ltb, le-leb}
 use Rattle.lot.specs.Meaning.{cell_rows, lot_net}
 use Rattle.lot.specs.Page.{table_of, four, at, Within, AllWithin, Sized, Ready}
 use Rattle.lot.specs.Single.{Single, single}
 use Rattle.lot.specs.Laws.Sums.{sum_one}
 use Rattle.lot.specs.Laws.Singles.{single_cells, single_admits}
-use Rattle.lot.specs.Laws.Tests.{le_of_test, test_of_le}
 use Rattle.lot.proofs.Machine.{all_within}
 use Rattle.lot.proofs.Terms.{row_at}
+
+-- the row that is named where a test does not pass
+pub unless : (v : Bool) → then_some {T = ℕ} (not v) 0 ≡ cond v None (Some 0)
+unless true = refl
+unless false = refl
 
 module _ (s : Single) where
   pub alone_cells : ◌≡◌ {A = ℕ} 1 (min (cell_rows (single s)) 4097)
@@ -35,8 +41,8 @@ module _ (s : Single) where
       pub row_is : at q ≡ table_of b 0
       row_is = ap at eq ∙ row_at b 0
 
-      pub tells : (v : Bool) (r : Bool) → r ≡ s.admits (at q) → r ≡ v → cond v None (Some 0) ≡ (single s).refused (table_of b)
-      tells v r e w = ap (λ x. cond x None (Some 0)) (sym w ∙ e ∙ ap s.admits row_is)
+      pub tells : (r : Bool) → r ≡ s.admits (at q) → then_some {T = ℕ} (not r) 0 ≡ (single s).refused (table_of b)
+      tells r e = unless r ∙ ap (λ x. cond x None (Some 0)) (e ∙ ap s.admits row_is)
 
 -- ---- what calls return
 pub best_of_lem : {r d w : ℤ} → Within 7999919200008 d → r ≡ int_max (to_z w64 (of_z w64 d)) (pos 0) → d ≡ w → to_z w64 (of_z w64 r) ≡ int_max (pos 0) w
@@ -45,15 +51,13 @@ best_of_lem {r} {d} {w} h e g = let l : nat_abs d ≤ 7999919200008 = h.size in 
     back : (d : ℤ) → nat_abs d ≤ 7999919200008 → to_z w64 (of_z w64 (int_max (pos 0) d)) ≡ int_max (pos 0) d
     back d l = let k : nat_abs (int_max (pos 0) d) ≤ 7999919200008 = omega (arith, ints, clamps) in omega (arith, ints)
 
-pub keeps_then : {x y : ℤ} → pos 0 ≤ℤ x → x ≡ y → ◌≡◌ {A = Option ℕ} None (cond (le_z (pos 0) y) None (Some 0))
-keeps_then {x} {y} h e = sym (ap (λ b. cond b None (Some 0)) (test_of_le (pos 0) y (subst (λ z. pos 0 ≤ℤ z) e h)))
+below_zero : (z : ℤ) → lt_z z (pos 0) ≡ not (le_z (pos 0) z)
+below_zero (pos n) = le-ltb n 0 (omega arith) ∙ ap not (sym (le-leb 0 n (omega arith)))
+below_zero (negsuc n) = refl
 
-pub keeps_else : {x y : ℤ} → x <ℤ pos 0 → x ≡ y → ◌≡◌ {A = Option ℕ} (Some 0) (cond (le_z (pos 0) y) None (Some 0))
-keeps_else {x} {y} h e = sym (ap (λ b. cond b None (Some 0)) (by_test (le_z (pos 0) y) refl))
-  where
-    by_test : (v : Bool) → le_z (pos 0) y ≡ v → le_z (pos 0) y ≡ false
-    by_test true w = let z = le_of_test (pos 0) y w in absurd (omega (arith, ints))
-    by_test false w = w
+-- the row that is named where a sum is negative
+pub broken_below : {x y : ℤ} → x ≡ y → then_some {T = ℕ} (lt_z x (pos 0)) 0 ≡ cond (le_z (pos 0) y) None (Some 0)
+broken_below {x} {y} e = ap (λ z. then_some {T = ℕ} (lt_z z (pos 0)) 0) e ∙ ap (λ b. then_some {T = ℕ} b 0) (below_zero y) ∙ unless (le_z (pos 0) y)
 
 -- a cell that was passed through its bits
 pub cell_small : {n : ℕ} {z y : ℤ} → nat_abs y ≤ n → z ≡ y → n < 2 ^ 31 → Within n (to_z w32 (of_z w32 z))

@@ -1,11 +1,11 @@
 -- Tests of all of four, or of all of a range, as chains of iterators give them.
-use Rattle.std.proofs.Common.{◌≡◌, ℕ, zero, suc, ◌+◌, ◌<◌, ◌≤◌, Bool, true, false, ◌&&◌, List, [], ◌∷◌, length, slice_index_or, Some, sym, refl, ap, ◌∙◌, subst, ⊎_elim, arith, lit<}
+use Rattle.std.proofs.Common.{◌≡◌, ℕ, zero, suc, ◌+◌, ◌<◌, ◌≤◌, Bool, true, false, ◌&&◌, ◌||◌, List, [], ◌∷◌, length, slice_index_or, Some, sym, refl, ap, ◌∙◌, subst, ⊎_elim, arith, lit<}
 use Rattle.std.proofs.lemmas.Bool.{cases_lt}
 use denote.Param.Members.{Mut}
 use Rattle.std.specs.Array.{list_steps, index_steps, MapsFrom, IsMapOf, IsFromFnResultFrom, IsFromFnResult}
 use Rattle.std.specs.Fn.{Called}
 use Rattle.std.specs.Iterator.{Yields, CallableAtEachTurn}
-use Rattle.std.specs.List.{list_all, range_with_len, FoldsTo}
+use Rattle.std.specs.List.{list_all, list_any, range_with_len, zip, FoldsTo}
 use Rattle.lot.specs.Sum.{every}
 use Rattle.lot.specs.Laws.Sums.{every_four, every_same}
 
@@ -127,3 +127,44 @@ module _ {F B : Type 0} (g : Mut F (ℕ × Unit {0}) B) (f : F) (ys : List B) (h
       let c = at 2 (lit< tt) in
       let e = at 3 (lit< tt) in
       quad_of ys (h 0) m.long ∙ (λ i. a i ∷ b i ∷ c i ∷ e i ∷ [])
+
+-- ---- lists of four, by index
+module _ {A : Type 0} (test : A → Bool) (xs : List A) (d : A) (four : length xs ≡ 4) where
+  pub all_of : list_all test xs ≡ every 4 (λ t. test (slice_index_or xs t d))
+  all_of = ap (list_all test) (quad_of xs d four) ∙ all_quad test (λ t. slice_index_or xs t d)
+
+  pub all_of_then : (z : Bool) → (list_all test xs && z)
+      ≡ (test (slice_index_or xs 0 d) && (test (slice_index_or xs 1 d) && (test (slice_index_or xs 2 d) && (test (slice_index_or xs 3 d) && z))))
+  all_of_then z = ap (λ ys. list_all test ys && z) (quad_of xs d four) ∙ then (test (slice_index_or xs 0 d)) (test (slice_index_or xs 1 d)) (test (slice_index_or xs 2 d)) (test (slice_index_or xs 3 d)) z
+    where
+      then : (a b c e z : Bool) → ((a && (b && (c && (e && true)))) && z) ≡ (a && (b && (c && (e && z))))
+      then true true true true z = refl
+      then true true true false z = refl
+      then true true false e z = refl
+      then true false c e z = refl
+      then false b c e z = refl
+
+  pub any_of : list_any test xs ≡ (test (slice_index_or xs 0 d) || (test (slice_index_or xs 1 d) || (test (slice_index_or xs 2 d) || test (slice_index_or xs 3 d))))
+  any_of = ap (list_any test) (quad_of xs d four) ∙ either (test (slice_index_or xs 0 d)) (test (slice_index_or xs 1 d)) (test (slice_index_or xs 2 d)) (test (slice_index_or xs 3 d))
+    where
+      either : (a b c e : Bool) → (a || (b || (c || (e || false)))) ≡ (a || (b || (c || e)))
+      either true b c e = refl
+      either false true c e = refl
+      either false false true e = refl
+      either false false false true = refl
+      either false false false false = refl
+
+pub all_of_zip : {A B : Type 0} (test : A × B → Bool) (xs : List A) (ys : List B) (d : A) (e : B) → length xs ≡ 4 → length ys ≡ 4
+    → list_all test (zip xs ys) ≡ every 4 (λ t. test (slice_index_or xs t d, slice_index_or ys t e))
+all_of_zip test xs ys d e h k = (λ i. list_all test (zip (quad_of xs d h i) (quad_of ys e k i))) ∙ all_quad test (λ t. (slice_index_or xs t d, slice_index_or ys t e))
+
+pub all_in_turn : {A : Type 0} (test : A → Bool) (xs : List A) (d : A) → length xs ≡ 4
+    → list_all test xs ≡ (test (slice_index_or xs 0 d) && (test (slice_index_or xs 1 d) && (test (slice_index_or xs 2 d) && test (slice_index_or xs 3 d))))
+all_in_turn test xs d four = ap (list_all test) (quad_of xs d four) ∙ turns (test (slice_index_or xs 0 d)) (test (slice_index_or xs 1 d)) (test (slice_index_or xs 2 d)) (test (slice_index_or xs 3 d))
+  where
+    turns : (a b c e : Bool) → (a && (b && (c && (e && true)))) ≡ (a && (b && (c && e)))
+    turns true true true true = refl
+    turns true true true false = refl
+    turns true true false e = refl
+    turns true false c e = refl
+    turns false b c e = refl

@@ -1,5 +1,5 @@
--- A sum of four products, as a chain of iterators gives it.
-use Rattle.std.proofs.Common.{◌≡◌, ℕ, zero, suc, ◌*◌, ◌^◌, ◌<◌, ◌≤◌, List, [], ◌∷◌, map, take, fold, length, ℤ, pos, ◌+ℤ◌, ◌*ℤ◌, nat_abs, Option, w64, sym, refl, ap, ◌∙◌, subst, arith, lit≤, mul-le-mul_left}
+-- A sum of four, as a chain of iterators gives it.
+use Rattle.std.proofs.Common.{◌≡◌, ℕ, zero, suc, ◌*◌, ◌^◌, ◌<◌, ◌≤◌, List, [], ◌∷◌, map, take, fold, length, ℤ, pos, ◌+ℤ◌, nat_abs, Option, w64, sym, refl, ap, ◌∙◌, subst, arith, lit≤, mul-le-mul_left}
 use Rattle.std.proofs.lemmas.Int.{ints}
 use Rattle.std.proofs.lemmas.Iterator.{YieldsList, items_from_drains}
 use Rattle.std.specs.Iterator.{Yields, AlwaysYields, Drains}
@@ -51,6 +51,6 @@ module _ {S : Type 0} {steps : S → Option ℤ → S → Type 0} {s : S} {all :
       let d = m.1 tt in
       m.2 ∙ ap (fold ◌+ℤ◌ (pos 0)) (sym (map_id m.0) ∙ items_from_drains m.0 (d.1.0, d.1.1, λ _. (d.0, d.1.2)) e ∙ four) ∙ fold_take h 4 (lit≤ tt)
 
--- the products of two lists of four
-pub products : (xs ys : List ℤ) → length xs ≡ 4 → length ys ≡ 4 → map (λ (p : ℤ × ℤ). p.0 *ℤ p.1) (zip xs ys) ≡ quad (λ t. at xs t *ℤ at ys t)
-products xs ys h k = λ i. map (λ (p : ℤ × ℤ). p.0 *ℤ p.1) (zip (quad_of xs (pos 0) h i) (quad_of ys (pos 0) k i))
+-- what `map` gives of two lists of four, side by side
+pub map_pairs : (h : ℤ × ℤ → ℤ) (xs ys : List ℤ) → length xs ≡ 4 → length ys ≡ 4 → map h (zip xs ys) ≡ quad (λ t. h (at xs t, at ys t))
+map_pairs h xs ys k l = λ i. map h (zip (quad_of xs (pos 0) k i) (quad_of ys (pos 0) l i))

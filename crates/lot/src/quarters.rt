@@ -1,6 +1,6 @@
-ghost use Rattle.std.specs.Prelude.{◌≡◌, ◌^◌, ◌&&◌, ◌+ℤ◌, ◌*ℤ◌};
+ghost use Rattle.std.specs.Prelude.{◌≡◌, ◌*ℤ◌};
 ghost use Rattle.lot.specs.Sum.{sum};
-ghost use Rattle.lot.specs.Page.{at, Within, AllWithin};
+ghost use Rattle.lot.specs.Page.{at, AllWithin};
 ghost use Rattle.lot.specs.Single.{idle_row};
 
 // Sums over the four quarters, in grains.
@@ -10,13 +10,6 @@ pub fn product(a: i32, b: i32) -> i64
     ensures { result ≡ a *ℤ b }
 {
     i64::from(a) * i64::from(b)
-}
-
-pub fn add_four(a: i64, b: i64, c: i64, d: i64) -> i64
-    requires { (Within (2 ^ 60) a) × ((Within (2 ^ 60) b) × ((Within (2 ^ 60) c) × (Within (2 ^ 60) d))) }
-    ensures { result ≡ a +ℤ b +ℤ c +ℤ d }
-{
-    a + b + c + d
 }
 
 // Quantities times prices, or differences of prices, over the four quarters.
@@ -30,12 +23,6 @@ pub fn dot(quantities: &[i32; 4], prices: &[i32; 4]) -> i64
         .zip(prices)
         .map(|(quantity, price)| product(*quantity, *price))
         .sum()
-}
-
-pub fn all_four(a: bool, b: bool, c: bool, d: bool) -> bool
-    ensures { result ≡ (((a && b) && c) && d) }
-{
-    a && b && c && d
 }
 
 // Are all four cells zero?

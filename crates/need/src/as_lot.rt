@@ -3,7 +3,7 @@ ghost use Rattle.std.specs.Int.{int_max};
 ghost use Rattle.units.specs.Side.{is_upward};
 ghost use Rattle.lot.specs.Sum.{sum, every};
 ghost use Rattle.lot.specs.Direction.{towards, TermsOf};
-ghost use Rattle.lot.specs.Page.{at, four, Within, AllWithin};
+ghost use Rattle.lot.specs.Page.{at, four, AllWithin};
 ghost use Rattle.lot.specs.Single.{single};
 ghost use Rattle.lot.specs.Laws.Joins.{settled_always};
 ghost use Rattle.lot.specs.Laws.Singles.{single_idle, single_greatest, single_unharmed, single_limited};
@@ -13,7 +13,7 @@ ghost use Rattle.need.specs.Laws.Needs.{need_duties};
 use crate::elasticity::Elasticity;
 use crate::lawful::Need;
 use lot::lot::Lot;
-use lot::quarters::{add_four, all_four, product};
+use lot::quarters::product;
 use lot::trade::{Direction, TradeTerms};
 use lot::views::{CappedPrices, Cells};
 use units::limit::CAP;
@@ -39,26 +39,11 @@ fn at_any_price(side: Side) -> i32
     }
 }
 
-// Does a cell lie from nothing to the maximum?
-fn within(cell: i32, maximum: i32) -> bool
-    ensures { result ≡ (int_le (pos 0) cell && int_le cell maximum) }
-{
-    0 <= cell && cell <= maximum
-}
-
 // What a quarter earns at most: all of its maximum, or nothing.
 fn most_earned(maximum: i32, gain: i32) -> i64
-    requires { (Within 99999 maximum) × (Within 19999998 gain) }
     ensures { result ≡ int_max (pos 0) (maximum *ℤ gain) }
 {
     product(maximum, gain).max(0)
-}
-
-// Does a quarter not lose?
-fn no_loss(cell: i32, gain: i32) -> bool
-    ensures { result ≡ int_le (pos 0) (cell *ℤ gain) }
-{
-    product(cell, gain) >= 0
 }
 
 // What the four quarters earn at most.
@@ -67,23 +52,21 @@ fn most_earned_in(maxima: &[i32; 4], gains: &[i32; 4]) -> i64
     requires gains { AllWithin 19999998 gains.now }
     ensures { result ≡ sum 4 (λ t. int_max (pos 0) (at maxima.now t *ℤ at gains.now t)) }
 {
-    let [a, b, c, d] = *maxima;
-    let [w, x, y, z] = *gains;
-    add_four(
-        most_earned(a, w),
-        most_earned(b, x),
-        most_earned(c, y),
-        most_earned(d, z),
-    )
+    maxima
+        .iter()
+        .zip(gains)
+        .map(|(maximum, gain)| most_earned(*maximum, *gain))
+        .sum()
 }
 
 // Does none of the four quarters lose?
 fn no_loss_in(cells: &[i32; 4], gains: &[i32; 4]) -> bool
     ensures { result ≡ every 4 (λ t. int_le (pos 0) (at cells.now t *ℤ at gains.now t)) }
 {
-    let [a, b, c, d] = *cells;
-    let [w, x, y, z] = *gains;
-    all_four(no_loss(a, w), no_loss(b, x), no_loss(c, y), no_loss(d, z))
+    cells
+        .iter()
+        .zip(gains)
+        .all(|(cell, gain)| product(*cell, *gain) >= 0)
 }
 
 impl Need {
@@ -92,14 +75,8 @@ impl Need {
         ensures { result ≡ four (need_trade self.now.fields).limit }
     {
         match self.fields.elasticity {
-            Elasticity::Elastic => {
-                let [a, b, c, d] = &self.fields.quarters;
-                [a.price, b.price, c.price, d.price]
-            }
-            Elasticity::Inelastic => {
-                let limit = at_any_price(self.fields.side);
-                [limit, limit, limit, limit]
-            }
+            Elasticity::Elastic => self.fields.quarters.map(|quarter| quarter.price),
+            Elasticity::Inelastic => [at_any_price(self.fields.side); 4],
         }
     }
 
@@ -108,22 +85,17 @@ impl Need {
         ensures same { result ≡ four (wanted self.now.fields) }
         ensures small { AllWithin 99999 result }
     {
-        let [a, b, c, d] = &self.fields.quarters;
-        [
-            a.maximum as i32,
-            b.maximum as i32,
-            c.maximum as i32,
-            d.maximum as i32,
-        ]
+        self.fields.quarters.map(|quarter| quarter.maximum as i32)
     }
 
     // Each quarter by itself, from nothing to its maximum.
     fn admits(&self, cells: &[i32; 4]) -> bool
         ensures { result ≡ (needing self.now.fields).admits (at cells.now) }
     {
-        let [a, b, c, d] = *cells;
-        let [w, x, y, z] = self.maxima();
-        all_four(within(a, w), within(b, x), within(c, y), within(d, z))
+        cells
+            .iter()
+            .zip(&self.maxima())
+            .all(|(cell, maximum)| (0..=*maximum).contains(cell))
     }
 
     // The trade that the need asks for.
@@ -160,11 +132,7 @@ impl Lot for Need {
     }
 
     fn refused_row(&self, cells: Cells<'_>) -> Option<usize> {
-        if self.admits(&cells.row(0)) {
-            None
-        } else {
-            Some(0)
-        }
+        (!self.admits(&cells.row(0))).then_some(0)
     }
 
     fn net(&self, cells: Cells<'_>, area: usize, quarter: usize) -> i64 {
@@ -186,6 +154,6 @@ impl Lot for Need {
 
     fn broken_row(&self, cells: Cells<'_>, prices: CappedPrices<'_>) -> Option<usize> {
         let kept = no_loss_in(&cells.row(0), &self.terms().gains(prices));
-        if kept { None } else { Some(0) }
+        (!kept).then_some(0)
     }
 }

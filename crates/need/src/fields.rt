@@ -43,18 +43,12 @@ fn quarter_fine(elasticity: Elasticity, q: &NeedQuarter) -> bool
 fn need_offers(qs: &[NeedQuarter; 4]) -> bool
     ensures { result ≡ need_offers qs.now }
 {
-    let [a, b, c, d] = qs;
-    a.maximum > 0 || b.maximum > 0 || c.maximum > 0 || d.maximum > 0
+    qs.iter().any(|q| q.maximum > 0)
 }
 
 // Every rule of a need's fields but the one on its area.
 pub fn need_fine(elasticity: Elasticity, qs: &[NeedQuarter; 4]) -> bool
     ensures { result ≡ need_fine elasticity qs.now }
 {
-    let [a, b, c, d] = qs;
-    quarter_fine(elasticity, a)
-        && quarter_fine(elasticity, b)
-        && quarter_fine(elasticity, c)
-        && quarter_fine(elasticity, d)
-        && need_offers(qs)
+    qs.iter().all(|q| quarter_fine(elasticity, q)) && need_offers(qs)
 }

@@ -1,11 +1,15 @@
-use Rattle.std.proofs.Common.{rules}
+use Rattle.std.proofs.Common.{◌≡◌, Bool, length, pos, nat_lt, ◌∙◌, rules, tests}
+use Rattle.std.proofs.lemmas.Iterator.{YieldsList-from_slice}
+use Rattle.std.proofs.lemmas.Iterator.Search.{any_from_yields_List}
+use Rattle.lot.proofs.Chains.{any_of}
+use Rattle.bid.specs.declared.fields.BidQuarter.{BidQuarter}
 use Rattle.bid.specs.Fields.{bid_offers}
 use Rattle.bid.proofs.fields.bid_offers.Goals as goal
 
-pub returns-then-c-gt0 : goal.returns-then-c-gt0
+pub returns : goal.returns
 unfolding bid_offers
-returns-then-c-gt0 c = search rules
-
-pub returns-else-c-gt0 : goal.returns-else-c-gt0
-unfolding bid_offers
-returns-else-c-gt0 c = search rules
+returns c =
+    let four : length c.args.qs.now ≡ 4 = cc in
+    let test : BidQuarter → Bool = λ q. nat_lt 0 q.maximum in
+    any_from_yields_List test _ _ _ c.any.ensures.ran (YieldsList-from_slice c.args.qs.now (cc)) (λ x b q k. search (rules, tests))
+    ∙ any_of test c.args.qs.now (record { minimum = 0; maximum = 0; price = pos 0 }) four

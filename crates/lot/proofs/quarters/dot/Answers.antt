@@ -5,7 +5,7 @@ use Rattle.std.proofs.lemmas.Iterator.Consumers.{YieldsList-at}
 use Rattle.lot.specs.Page.{at}
 use Rattle.lot.specs.Laws.Ring.{abs_mul_le}
 use Rattle.lot.proofs.Machine.{each_within}
-use Rattle.lot.proofs.Dots.{sums_fit, sum_of_four, products}
+use Rattle.lot.proofs.Dots.{sums_fit, sum_of_four, map_pairs}
 use Rattle.lot.proofs.quarters.dot.Goals as goal
 
 pub sum-requires-clause-fits : goal.sum-requires-clause-fits
@@ -16,7 +16,7 @@ sum-requires-clause-fits c =
     let fp : length p ≡ 4 = cc in
     sums_fit (λ t. at q t *ℤ at p t)
     (YieldsList-from_map _ (λ z. z.0 *ℤ z.1) (YieldsList-at c.map.ensures.source (YieldsList-from_zip (YieldsList-from_slice q (cc)) (YieldsList-from_slice p (cc)))) c.map.ensures.closure (λ x r q k. search (rules, tests)))
-    (products q p fq fp) 1999979800002 (λ k l. abs_mul_le (at q k) (at p k) 99999 19999998 (each_within c.requires.quantities k l) (each_within c.requires.prices k l)) (lit< tt)
+    (map_pairs (λ z. z.0 *ℤ z.1) q p fq fp) 1999979800002 (λ k l. abs_mul_le (at q k) (at p k) 99999 19999998 (each_within c.requires.quantities k l) (each_within c.requires.prices k l)) (lit< tt)
 
 pub returns : goal.returns
 returns c =
@@ -27,4 +27,4 @@ returns c =
     to_z-of_z w64 c.sum.result (search rules)
     ∙ sum_of_four (λ t. at q t *ℤ at p t)
     (YieldsList-from_map _ (λ z. z.0 *ℤ z.1) (YieldsList-at c.map.ensures.source (YieldsList-from_zip (YieldsList-from_slice q (cc)) (YieldsList-from_slice p (cc)))) c.map.ensures.closure (λ x r q k. search (rules, tests)))
-    (products q p fq fp) c.sum.result c.sum.ensures.ran
+    (map_pairs (λ z. z.0 *ℤ z.1) q p fq fp) c.sum.result c.sum.ensures.ran

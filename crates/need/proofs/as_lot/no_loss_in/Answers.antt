@@ -1,20 +1,16 @@
-use Rattle.std.proofs.Common.{pos, ◌*ℤ◌, w32, SFits, rules}
+use Rattle.std.proofs.Common.{◌≡◌, Bool, length, ℤ, pos, ◌*ℤ◌, ◌∙◌, rules, tests}
 use lib.Signed.{le_z}
-use Rattle.lot.specs.Page.{at}
-use Rattle.lot.proofs.Machine.{every_is}
-use Rattle.need.proofs.Trades.{passed_loss}
+use Rattle.std.proofs.lemmas.Iterator.{YieldsList-from_slice, YieldsList-from_zip}
+use Rattle.std.proofs.lemmas.Iterator.Search.{all_from_yields_List}
+use Rattle.lot.proofs.Chains.{all_of_zip}
 use Rattle.need.proofs.as_lot.no_loss_in.Goals as goal
 
 pub returns : goal.returns
 returns c =
-    let q = at c.args.cells.now in
-    let m = at c.args.gains.now in
-    let f0 : SFits w32 (q 0) = search rules in
-    let f1 : SFits w32 (q 1) = search rules in
-    let f2 : SFits w32 (q 2) = search rules in
-    let f3 : SFits w32 (q 3) = search rules in
-    let g0 : SFits w32 (m 0) = search rules in
-    let g1 : SFits w32 (m 1) = search rules in
-    let g2 : SFits w32 (m 2) = search rules in
-    let g3 : SFits w32 (m 3) = search rules in
-    every_is (λ t. le_z (pos 0) (q t *ℤ m t)) c.all_four.ensures (passed_loss f0 g0 c.no_loss.ensures) (passed_loss f1 g1 c.no_loss-2.ensures) (passed_loss f2 g2 c.no_loss-3.ensures) (passed_loss f3 g3 c.no_loss-4.ensures)
+    let q = c.args.cells.now in
+    let g = c.args.gains.now in
+    let fq : length q ≡ 4 = cc in
+    let fg : length g ≡ 4 = cc in
+    let test : ℤ × ℤ → Bool = λ p. le_z (pos 0) (p.0 *ℤ p.1) in
+    all_from_yields_List test c.all.new.self _ c.all.result c.all.ensures.ran (YieldsList-from_zip (YieldsList-from_slice q (cc)) (YieldsList-from_slice g (cc))) (λ x b q k. search (rules, tests))
+    ∙ all_of_zip test q g (pos 0) (pos 0) fq fg

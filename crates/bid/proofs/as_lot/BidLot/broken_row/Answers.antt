@@ -1,5 +1,5 @@
-use Rattle.std.proofs.Common.{◌≡◌, ℕ, List, ℤ, pos, ◌+ℤ◌, ◌*ℤ◌, ◌≤ℤ◌, ◌<ℤ◌, sym, ◌∙◌, arith}
-use Rattle.std.proofs.lemmas.Int.{ints}
+use Rattle.std.proofs.Common.{◌≡◌, ℕ, List, ℤ, ◌+ℤ◌, ◌*ℤ◌, sym, ◌∙◌, w64, rules}
+use Rattle.std.proofs.lemmas.Int.{to_z-of_z}
 use Rattle.lot.specs.declared.trade.TradeTerms.{TradeTerms}
 use Rattle.lot.specs.Sum.{sum}
 use Rattle.lot.specs.Meaning.{money}
@@ -8,7 +8,7 @@ use Rattle.lot.specs.Trade.{trade_net, trade_worth, gain}
 use Rattle.lot.specs.Direction.{trade_of, TermsOf}
 use Rattle.lot.specs.Laws.Trades.{trade_surplus}
 use Rattle.lot.proofs.Terms.{earned}
-use Rattle.lot.proofs.Alone.{alone_long, alone_within, keeps_then, keeps_else}
+use Rattle.lot.proofs.Alone.{alone_long, alone_within, broken_below}
 use Rattle.bid.specs.declared.lawful.Bid.{Bid}
 use Rattle.bid.specs.Bidding.{bidding, bid_trade}
 use Rattle.bid.proofs.Trades.{inside, cells_small}
@@ -28,12 +28,7 @@ surplus_same : (b : Bid) (k p : List ℕ) (x : TradeTerms) → TermsOf (bid_trad
 surplus_same b k p x ex g eg q eq r e =
     earned (bid_trade b.fields) x ex p g eg (table_of k 0) q eq r e ∙ sym (trade_surplus (bid_trade b.fields) (inside b) (table_of k 0) (table_of p))
 
-pub returns-then-surplus-ge0 : goal.returns-then-surplus-ge0
-returns-then-surplus-ge0 c =
-    let h : pos 0 ≤ℤ c.dot-surplus.result = let t = c.if-surplus-ge0.true in omega (arith, ints) in
-    keeps_then h (surplus_same c.args.self.now c.args.cells.bytes.now c.args.prices.bytes.now c.terms.result c.terms.ensures c.gains.result c.gains.ensures.same c.row.result c.row.ensures c.dot-surplus.result c.dot-surplus.ensures)
-
-pub returns-else-surplus-ge0 : goal.returns-else-surplus-ge0
-returns-else-surplus-ge0 c =
-    let h : c.dot-surplus.result <ℤ pos 0 = let t = c.if-surplus-ge0.false in omega (arith, ints) in
-    keeps_else h (surplus_same c.args.self.now c.args.cells.bytes.now c.args.prices.bytes.now c.terms.result c.terms.ensures c.gains.result c.gains.ensures.same c.row.result c.row.ensures c.dot-surplus.result c.dot-surplus.ensures)
+pub returns : goal.returns
+returns c =
+    c.then_some.ensures
+    ∙ broken_below (to_z-of_z w64 c.dot-surplus.result (search rules) ∙ surplus_same c.args.self.now c.args.cells.bytes.now c.args.prices.bytes.now c.terms.result c.terms.ensures c.gains.result c.gains.ensures.same c.row.result c.row.ensures c.dot-surplus.result c.dot-surplus.ensures)

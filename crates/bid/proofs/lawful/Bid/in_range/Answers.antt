@@ -1,20 +1,16 @@
-use Rattle.std.proofs.Common.{◌&&◌, w32, SFits, rules}
+use Rattle.std.proofs.Common.{◌≡◌, Bool, ◌&&◌, length, ℤ, pos, ◌∙◌, rules, tests}
 use lib.Signed.{le_z}
-use Rattle.lot.specs.Page.{at}
-use Rattle.lot.proofs.Machine.{passed, every_is}
-use Rattle.bid.specs.Bidding.{least, most}
+use Rattle.std.proofs.lemmas.Iterator.{YieldsList-from_slice, YieldsList-from_zip}
+use Rattle.std.proofs.lemmas.Iterator.Search.{all_from_yields_List}
+use Rattle.lot.proofs.Chains.{all_of_zip}
+use Rattle.bid.specs.declared.fields.BidQuarter.{BidQuarter}
 use Rattle.bid.proofs.lawful.Bid.in_range.Goals as goal
 
 pub returns : goal.returns
 returns c =
-    let b = c.args.self.now.fields in
-    let q = at c.args.cells.now in
-    let f0 : SFits w32 (q 0) = search rules in
-    let f1 : SFits w32 (q 1) = search rules in
-    let f2 : SFits w32 (q 2) = search rules in
-    let f3 : SFits w32 (q 3) = search rules in
-    every_is (λ t. le_z (least b t) (q t) && le_z (q t) (most b t)) c.all_four.ensures
-    (passed (λ z. le_z (least b 0) z && le_z z (most b 0)) f0 c.between.ensures)
-    (passed (λ z. le_z (least b 1) z && le_z z (most b 1)) f1 c.between-2.ensures)
-    (passed (λ z. le_z (least b 2) z && le_z z (most b 2)) f2 c.between-3.ensures)
-    (passed (λ z. le_z (least b 3) z && le_z z (most b 3)) f3 c.between-4.ensures)
+    let q = c.args.cells.now in
+    let qs = c.args.self.now.fields.quarters in
+    let four : length q ≡ 4 = cc in
+    let test : ℤ × BidQuarter → Bool = λ p. le_z (pos p.1.minimum) p.0 && le_z p.0 (pos p.1.maximum) in
+    all_from_yields_List test c.all.new.self _ c.all.result c.all.ensures.ran (YieldsList-from_zip (YieldsList-from_slice q (cc)) (YieldsList-from_slice qs (cc))) (λ x b q k. search (rules, tests))
+    ∙ all_of_zip test q qs (pos 0) (record { minimum = 0; maximum = 0; price = pos 0 }) four c.args.self.now.four

@@ -1,31 +1,25 @@
-use Rattle.std.proofs.Common.{◌≡◌, ◌*ℤ◌, ap, ◌∙◌, w32, SFits, rules}
-use Rattle.lot.specs.Sum.{same_z}
-use Rattle.lot.specs.Page.{at}
+use Rattle.std.proofs.Common.{ℕ, Bool, ◌*ℤ◌, refl, ap, ◌∙◌, arith, rules, tests}
+use Rattle.std.proofs.lemmas.Iterator.{YieldsList-from_range}
+use Rattle.std.proofs.lemmas.Iterator.Search.{all_from_yields_List}
+use Rattle.lot.specs.Sum.{every, same_z}
+use Rattle.lot.specs.Laws.Sums.{every_same}
+use Rattle.lot.specs.Page.{four, at}
+use Rattle.lot.proofs.Terms.{four_at}
+use Rattle.lot.proofs.Chains.{all_range}
 use Rattle.bid.specs.Bidding.{most}
-use Rattle.bid.proofs.Trades.{pair_is, six_tests}
+use Rattle.bid.proofs.Trades.{pair, pairs_before}
 use Rattle.bid.proofs.lawful.Bid.in_ratio.Goals as goal
 
 pub returns : goal.returns
 returns c =
-    let b = c.args.self.now.fields in
+    let f = c.args.self.now.fields in
     let q = at c.args.cells.now in
-    let m = at c.maxima.result in
-    let f0 : SFits w32 (q 0) = search rules in
-    let f1 : SFits w32 (q 1) = search rules in
-    let f2 : SFits w32 (q 2) = search rules in
-    let f3 : SFits w32 (q 3) = search rules in
-    let g0 : SFits w32 (m 0) = search rules in
-    let g1 : SFits w32 (m 1) = search rules in
-    let g2 : SFits w32 (m 2) = search rules in
-    let g3 : SFits w32 (m 3) = search rules in
-    let e0 : m 0 ≡ most b 0 = ap (λ ys. at ys 0) c.maxima.ensures.same in
-    let e1 : m 1 ≡ most b 1 = ap (λ ys. at ys 1) c.maxima.ensures.same in
-    let e2 : m 2 ≡ most b 2 = ap (λ ys. at ys 2) c.maxima.ensures.same in
-    let e3 : m 3 ≡ most b 3 = ap (λ ys. at ys 3) c.maxima.ensures.same in
-    six_tests b q c.all_three.ensures c.all_three-first.ensures c.all_three-rest.ensures
-    (pair_is f0 g1 f1 g0 c.share.ensures ∙ (λ i. same_z (q 0 *ℤ e1 i) (q 1 *ℤ e0 i)))
-    (pair_is f0 g2 f2 g0 c.share-2.ensures ∙ (λ i. same_z (q 0 *ℤ e2 i) (q 2 *ℤ e0 i)))
-    (pair_is f0 g3 f3 g0 c.share-3.ensures ∙ (λ i. same_z (q 0 *ℤ e3 i) (q 3 *ℤ e0 i)))
-    (pair_is f1 g2 f2 g1 c.share-4.ensures ∙ (λ i. same_z (q 1 *ℤ e2 i) (q 2 *ℤ e1 i)))
-    (pair_is f1 g3 f3 g1 c.share-5.ensures ∙ (λ i. same_z (q 1 *ℤ e3 i) (q 3 *ℤ e1 i)))
-    (pair_is f2 g3 f3 g2 c.share-6.ensures ∙ (λ i. same_z (q 2 *ℤ e3 i) (q 3 *ℤ e2 i)))
+    let m = at c.maxima-most.result in
+    let F : ℕ → Bool = λ t. every t (λ u. same_z (q t *ℤ m u) (q u *ℤ m t)) in
+    all_from_yields_List F _ _ _ c.all.ensures.ran (YieldsList-from_range 0 4 4 refl refl) (λ x b q k. search (rules, tests))
+    ∙ all_range 4 F
+    ∙ ap (λ ys. every 4 (λ t. every t (λ u. same_z (q t *ℤ at ys u) (q u *ℤ at ys t)))) c.maxima-most.ensures.same
+    ∙ every_same 4 (λ t. every t (λ u. same_z (q t *ℤ at (four (most f)) u) (q u *ℤ at (four (most f)) t))) (λ t. every t (pair f q t))
+    (λ t l. every_same t (λ u. same_z (q t *ℤ at (four (most f)) u) (q u *ℤ at (four (most f)) t)) (pair f q t) (λ u k.
+    λ i. same_z (q t *ℤ four_at (most f) u (omega arith) i) (q u *ℤ four_at (most f) t l i)))
+    ∙ pairs_before f q

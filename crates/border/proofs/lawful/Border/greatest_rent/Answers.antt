@@ -1,20 +1,24 @@
-use Rattle.std.proofs.Common.{lit<}
-use Rattle.border.proofs.Steps.{rented_quarter, rented_half, rented_small, two_fit, rents_in_one, rents_in_two}
+use Rattle.std.proofs.Common.{◌≡◌, ℕ, ℤ, pos, ◌+ℤ◌, [], sym, refl, ap, ◌∙◌, arith, lit<, w64, rules, tests}
+use Rattle.std.proofs.lemmas.Int.{ints, to_z-of_z}
+use Rattle.std.proofs.lemmas.Iterator.{YieldsList-from_range, YieldsList-from_map}
+use Rattle.lot.specs.Page.{table_of}
+use Rattle.lot.specs.Laws.Sums.{sum_four}
+use Rattle.lot.proofs.Dots.{sums_fit, sum_of_four}
+use Rattle.border.specs.Flow.{blocks, sum_over, stretch}
+use Rattle.border.specs.Stretch.{stretch_best}
+use Rattle.border.proofs.Steps.{rented_quarter, rented_half, two_fit, rents_in_two}
 use Rattle.border.proofs.lawful.Border.greatest_rent.Goals as goal
 
-pub add_four-requires : goal.add_four-requires
-add_four-requires c =
+in_turn : (a b c d : ℤ) → a +ℤ b +ℤ c +ℤ d ≡ a +ℤ (b +ℤ (c +ℤ (d +ℤ pos 0)))
+in_turn a b c d = omega (arith, ints)
+
+pub sum-requires-clause-fits : goal.sum-requires-clause-fits
+sum-requires-clause-fits c =
     let x = c.args.self.now in
-    let b = c.args.prices.bytes.now in (
-      rented_small x b c.args.prices.priced (rented_quarter x b c.args.prices.priced 0 (lit< tt) c.quarter.ensures c.best-first.ensures),
-      (
-        rented_small x b c.args.prices.priced (rented_quarter x b c.args.prices.priced 1 (lit< tt) c.quarter-in-One.ensures c.best-second.ensures),
-        (
-          rented_small x b c.args.prices.priced (rented_quarter x b c.args.prices.priced 2 (lit< tt) c.quarter-in-One-2.ensures c.best-third.ensures),
-          rented_small x b c.args.prices.priced (rented_quarter x b c.args.prices.priced 3 (lit< tt) c.quarter-in-One-3.ensures c.best-fourth.ensures),
-        ),
-      ),
-    )
+    let b = c.args.prices.bytes.now in
+    let h : ℕ → ℤ = λ t. stretch_best (stretch x.fields (table_of b) (t, [])) in
+    sums_fit h (YieldsList-from_map _ h (YieldsList-from_range 0 4 4 c.map.ensures.source refl) c.map.ensures.closure (λ x r q k. search (rules, tests))) refl
+    99999000000000 (λ k l. let r = rented_quarter x b c.args.prices.priced k l refl refl in r.near.size) (lit< tt)
 
 pub overflow_add-result : goal.overflow_add-result
 overflow_add-result c =
@@ -28,12 +32,12 @@ pub returns-in-One : goal.returns-in-One
 returns-in-One c =
     let x = c.args.self.now in
     let b = c.args.prices.bytes.now in
-    rents_in_one x b c.args.prices.priced c.in-One.is
-    (rented_quarter x b c.args.prices.priced 0 (lit< tt) c.quarter.ensures c.best-first.ensures)
-    (rented_quarter x b c.args.prices.priced 1 (lit< tt) c.quarter-in-One.ensures c.best-second.ensures)
-    (rented_quarter x b c.args.prices.priced 2 (lit< tt) c.quarter-in-One-2.ensures c.best-third.ensures)
-    (rented_quarter x b c.args.prices.priced 3 (lit< tt) c.quarter-in-One-3.ensures c.best-fourth.ensures)
-    c.add_four.ensures
+    let h : ℕ → ℤ = λ t. stretch_best (stretch x.fields (table_of b) (t, [])) in
+    to_z-of_z w64 c.sum.result (search rules)
+    ∙ sum_of_four h (YieldsList-from_map _ h (YieldsList-from_range 0 4 4 c.map.ensures.source refl) c.map.ensures.closure (λ x r q k. search (rules, tests))) refl c.sum.result c.sum.ensures.ran
+    ∙ sum_four h
+    ∙ in_turn (h 0) (h 1) (h 2) (h 3)
+    ∙ ap (λ s. sum_over (blocks s) (λ k. stretch_best (stretch x.fields (table_of b) k))) (sym c.in-One.is)
 
 pub returns-in-Two : goal.returns-in-Two
 returns-in-Two c =

@@ -1,19 +1,16 @@
-use Rattle.std.proofs.Common.{[], w32, SFits, rules}
-use Rattle.lot.specs.Page.{at}
-use Rattle.border.proofs.Steps.{kept_at, kept_in_one}
+use Rattle.std.proofs.Common.{ℕ, Bool, [], sym, refl, ap, ◌∙◌, rules, tests}
+use Rattle.std.proofs.lemmas.Iterator.{YieldsList-from_range}
+use Rattle.std.proofs.lemmas.Iterator.Search.{all_from_yields_List}
+use Rattle.lot.specs.Page.{at, table_of}
+use Rattle.border.specs.Flow.{blocks, every_of, stretch}
+use Rattle.border.specs.Stretch.{stretch_keeps}
 use Rattle.border.proofs.lawful.Border.keeps_rule.Goals as goal
 
 pub returns-in-One : goal.returns-in-One
 returns-in-One c =
-    let x = c.args.self.now in
-    let b = c.args.prices.bytes.now in
+    let f = c.args.self.now.fields in
+    let p = table_of c.args.prices.bytes.now in
     let q = at c.args.flow.now in
-    let f0 : SFits w32 (q 0) = search rules in
-    let f1 : SFits w32 (q 1) = search rules in
-    let f2 : SFits w32 (q 2) = search rules in
-    let f3 : SFits w32 (q 3) = search rules in
-    kept_in_one x b c.args.prices.priced c.in-One.is q c.all_four.ensures
-    (kept_at x b c.args.prices.priced (0, []) c.quarter.ensures f0 c.keeps-first.ensures)
-    (kept_at x b c.args.prices.priced (1, []) c.quarter-in-One.ensures f1 c.keeps-second.ensures)
-    (kept_at x b c.args.prices.priced (2, []) c.quarter-in-One-2.ensures f2 c.keeps-third.ensures)
-    (kept_at x b c.args.prices.priced (3, []) c.quarter-in-One-3.ensures f3 c.keeps-fourth.ensures)
+    let F : ℕ → Bool = λ t. stretch_keeps (stretch f p (t, [])) (q t) in
+    all_from_yields_List F _ _ _ c.all.ensures.ran (YieldsList-from_range 0 4 4 refl refl) (λ x b q k. search (rules, tests))
+    ∙ ap (λ s. every_of (blocks s) (λ k. stretch_keeps (stretch f p k) (q k.0))) (sym c.in-One.is)

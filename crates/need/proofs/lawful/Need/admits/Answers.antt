@@ -1,25 +1,22 @@
-use Rattle.std.proofs.Common.{◌&&◌, pos, ap, ◌∙◌, w32, SFits, rules}
+use Rattle.std.proofs.Common.{◌≡◌, Bool, ◌&&◌, length, ℤ, pos, ap, ◌∙◌, rules, tests}
 use lib.Signed.{le_z}
+use Rattle.std.proofs.lemmas.Iterator.{YieldsList-from_slice, YieldsList-from_zip}
+use Rattle.std.proofs.lemmas.Iterator.Search.{all_from_yields_List}
 use Rattle.lot.specs.Page.{at}
 use Rattle.lot.specs.Laws.Sums.{every_same}
-use Rattle.lot.proofs.Machine.{every_is}
 use Rattle.lot.proofs.Terms.{four_at}
+use Rattle.lot.proofs.Chains.{all_of_zip}
 use Rattle.need.specs.Needing.{wanted}
-use Rattle.need.proofs.Trades.{passed_range}
 use Rattle.need.proofs.lawful.Need.admits.Goals as goal
 
 pub returns : goal.returns
 returns c =
-    let b = c.args.self.now.fields in
-    let q = at c.args.cells.now in
-    let m = at c.maxima.result in
-    let f0 : SFits w32 (q 0) = search rules in
-    let f1 : SFits w32 (q 1) = search rules in
-    let f2 : SFits w32 (q 2) = search rules in
-    let f3 : SFits w32 (q 3) = search rules in
-    let g0 : SFits w32 (m 0) = search rules in
-    let g1 : SFits w32 (m 1) = search rules in
-    let g2 : SFits w32 (m 2) = search rules in
-    let g3 : SFits w32 (m 3) = search rules in
-    every_is (λ t. le_z (pos 0) (q t) && le_z (q t) (m t)) c.all_four.ensures (passed_range f0 g0 c.within.ensures) (passed_range f1 g1 c.within-2.ensures) (passed_range f2 g2 c.within-3.ensures) (passed_range f3 g3 c.within-4.ensures)
-    ∙ every_same 4 (λ t. le_z (pos 0) (q t) && le_z (q t) (m t)) (λ t. le_z (pos 0) (q t) && le_z (q t) (wanted b t)) (λ t l. ap (λ z. le_z (pos 0) (q t) && le_z (q t) z) (ap (λ ys. at ys t) c.maxima.ensures.same ∙ four_at (wanted b) t l))
+    let q = c.args.cells.now in
+    let m = c.maxima.result in
+    let f = wanted c.args.self.now.fields in
+    let fq : length q ≡ 4 = cc in
+    let fm : length m ≡ 4 = ap length c.maxima.ensures.same in
+    let test : ℤ × ℤ → Bool = λ p. le_z (pos 0) p.0 && le_z p.0 p.1 in
+    all_from_yields_List test c.all.new.self _ c.all.result c.all.ensures.ran (YieldsList-from_zip (YieldsList-from_slice q (cc)) (YieldsList-from_slice m (cc))) (λ x b q k. search (rules, tests))
+    ∙ all_of_zip test q m (pos 0) (pos 0) fq fm
+    ∙ every_same 4 (λ t. test (at q t, at m t)) (λ t. test (at q t, f t)) (λ t l. ap (λ z. test (at q t, z)) (ap (λ ys. at ys t) c.maxima.ensures.same ∙ four_at f t l))
