@@ -1,76 +1,124 @@
-ghost use Rattle.std.specs.Prelude.{◌≡◌, ℕ};
+ghost use Rattle.std.specs.Prelude.{◌≡◌, ℕ, MatchResult, Ok, Err};
+ghost use Rattle.lot.specs.Page.{Sized, Ready};
+ghost use Rattle.asked.specs.Asked.{answer, few, held, admitted, priced};
 ghost use Rattle.asked.specs.Asked.{refused_of, net_of, worth_of, amount_of, best_of, broken_of, Ceiling};
+ghost use Rattle.asked.specs.Asked.{refused_told, net_told, worth_told, amount_told, best_told, broken_told};
 
-use crate::may::{may_ask, may_figure, may_hold};
+use crate::may::{may_ask, may_hold};
+use crate::unasked::Unasked;
 use lot::lot::Lot;
-use lot::views::{Cells, Prices};
+use lot::views::{CappedPrices, Cells, Prices};
+
+fn few<L: Lot>(lot: &L) -> Result<(), Unasked>
+    ensures { result ≡ few (L.Lot.meaning lot.now) }
+{
+    if may_ask(lot) {
+        Ok(())
+    } else {
+        Err(Unasked::TooManyRows)
+    }
+}
+
+fn held<L: Lot>(lot: &L, cells: Cells<'_>) -> Result<(), Unasked>
+    ensures { result ≡ held (L.Lot.meaning lot.now) cells.entry.bytes.now }
+{
+    few(lot)?;
+    if may_hold(lot, cells) {
+        Ok(())
+    } else {
+        Err(Unasked::OtherCells)
+    }
+}
+
+fn admitted<L: Lot>(lot: &L, cells: Cells<'_>) -> Result<(), Unasked>
+    ensures { result ≡ admitted (L.Lot.meaning lot.now) cells.entry.bytes.now }
+{
+    held(lot, cells)?;
+    if lot.refused_row(cells).is_none() {
+        Ok(())
+    } else {
+        Err(Unasked::RefusedCells)
+    }
+}
+
+fn priced(prices: Prices<'_>) -> Result<CappedPrices<'_>, Unasked>
+    ensures { MatchResult result (λ p. (priced prices.entry.bytes.now ≡ Ok tt) × (p.bytes.now ≡ prices.entry.bytes.now)) (λ e. priced prices.entry.bytes.now ≡ Err e) }
+{
+    prices.capped().ok_or(Unasked::OtherPrices)
+}
 
 // The row that is named for admission: none where the cells are admitted.
-pub fn refused<L: Lot>(lot: &L, cells: Cells<'_>) -> Option<Option<usize>>
-    ensures { result ≡ refused_of (L.Lot.meaning lot.now) cells.entry.bytes.now }
+pub fn refused<L: Lot>(lot: &L, cells: Cells<'_>) -> Result<Option<usize>, Unasked>
+    ensures answer { answer result ≡ refused_of (L.Lot.meaning lot.now) cells.entry.bytes.now }
+    ensures told { result ≡ refused_told (L.Lot.meaning lot.now) cells.entry.bytes.now }
 {
-    if may_hold(lot, cells) {
-        Some(lot.refused_row(cells))
-    } else {
-        None
-    }
+    held(lot, cells)?;
+    Ok(lot.refused_row(cells))
 }
 
 // The lot's net at a place.
-pub fn net<L: Lot>(lot: &L, cells: Cells<'_>, area: usize, quarter: usize) -> Option<i64>
-    ensures { result ≡ net_of (L.Lot.meaning lot.now) cells.entry.bytes.now area quarter }
+pub fn net<L: Lot>(lot: &L, cells: Cells<'_>, area: usize, quarter: usize) -> Result<i64, Unasked>
+    ensures answer { answer result ≡ net_of (L.Lot.meaning lot.now) cells.entry.bytes.now area quarter }
+    ensures told { result ≡ net_told (L.Lot.meaning lot.now) cells.entry.bytes.now area quarter }
 {
-    if may_figure(lot, cells) && area < 32 && quarter < 4 {
-        Some(lot.net(cells, area, quarter))
-    } else {
-        None
+    admitted(lot, cells)?;
+    if area >= 32 || quarter >= 4 {
+        return Err(Unasked::NoPlace);
     }
+    Ok(lot.net(cells, area, quarter))
 }
 
 // What a row is worth.
-pub fn worth<L: Lot>(lot: &L, cells: Cells<'_>, row: usize) -> Option<i64>
-    ensures { result ≡ worth_of (L.Lot.meaning lot.now) cells.entry.bytes.now row }
+pub fn worth<L: Lot>(lot: &L, cells: Cells<'_>, row: usize) -> Result<i64, Unasked>
+    ensures answer { answer result ≡ worth_of (L.Lot.meaning lot.now) cells.entry.bytes.now row }
+    ensures told { result ≡ worth_told (L.Lot.meaning lot.now) cells.entry.bytes.now row }
 {
-    if may_figure(lot, cells) && row < lot.row_count() {
-        Some(lot.worth(cells, row))
-    } else {
-        None
+    admitted(lot, cells)?;
+    if row >= lot.row_count() {
+        return Err(Unasked::NoPlace);
     }
+    Ok(lot.worth(cells, row))
 }
 
 // What a row comes to at the prices.
-pub fn amount<L: Lot>(lot: &L, cells: Cells<'_>, prices: Prices<'_>, row: usize) -> Option<i64>
-    ensures { result ≡ amount_of (L.Lot.meaning lot.now) cells.entry.bytes.now prices.entry.bytes.now row }
+pub fn amount<L: Lot>(
+    lot: &L,
+    cells: Cells<'_>,
+    prices: Prices<'_>,
+    row: usize,
+) -> Result<i64, Unasked>
+    ensures answer { answer result ≡ amount_of (L.Lot.meaning lot.now) cells.entry.bytes.now prices.entry.bytes.now row }
+    ensures told { result ≡ amount_told (L.Lot.meaning lot.now) cells.entry.bytes.now prices.entry.bytes.now row }
 {
-    let prices = prices.capped()?;
-    if may_figure(lot, cells) && row < lot.row_count() {
-        Some(lot.amount(cells, prices, row))
-    } else {
-        None
+    admitted(lot, cells)?;
+    let prices = priced(prices)?;
+    if row >= lot.row_count() {
+        return Err(Unasked::NoPlace);
     }
+    Ok(lot.amount(cells, prices, row))
 }
 
 // The greatest surplus at the prices: a ceiling on the welfare of every feasible clearing.
-pub fn best<L: Lot>(lot: &L, prices: Prices<'_>) -> Option<i64>
-    ensures value { result ≡ best_of (L.Lot.meaning lot.now) prices.entry.bytes.now }
+pub fn best<L: Lot>(lot: &L, prices: Prices<'_>) -> Result<i64, Unasked>
+    ensures answer { answer result ≡ best_of (L.Lot.meaning lot.now) prices.entry.bytes.now }
+    ensures told { result ≡ best_told (L.Lot.meaning lot.now) prices.entry.bytes.now }
     ensures ceiling { Ceiling (L.Lot.meaning lot.now) }
 {
-    let prices = prices.capped()?;
-    if may_ask(lot) {
-        Some(lot.best(prices))
-    } else {
-        None
-    }
+    few(lot)?;
+    let prices = priced(prices)?;
+    Ok(lot.best(prices))
 }
 
 // The row that is named for the price rule: none where it is kept.
-pub fn broken<L: Lot>(lot: &L, cells: Cells<'_>, prices: Prices<'_>) -> Option<Option<usize>>
-    ensures { result ≡ broken_of (L.Lot.meaning lot.now) cells.entry.bytes.now prices.entry.bytes.now }
+pub fn broken<L: Lot>(
+    lot: &L,
+    cells: Cells<'_>,
+    prices: Prices<'_>,
+) -> Result<Option<usize>, Unasked>
+    ensures answer { answer result ≡ broken_of (L.Lot.meaning lot.now) cells.entry.bytes.now prices.entry.bytes.now }
+    ensures told { result ≡ broken_told (L.Lot.meaning lot.now) cells.entry.bytes.now prices.entry.bytes.now }
 {
-    let prices = prices.capped()?;
-    if may_figure(lot, cells) {
-        Some(lot.broken_row(cells, prices))
-    } else {
-        None
-    }
+    admitted(lot, cells)?;
+    let prices = priced(prices)?;
+    Ok(lot.broken_row(cells, prices))
 }
