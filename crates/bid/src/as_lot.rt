@@ -6,7 +6,7 @@ ghost use Rattle.lot.specs.Page.{at, four, AllWithin};
 ghost use Rattle.lot.specs.Single.{single};
 ghost use Rattle.lot.specs.Laws.Joins.{settled_always};
 ghost use Rattle.lot.specs.Laws.Singles.{single_idle, single_greatest, single_unharmed, single_limited};
-ghost use Rattle.bid.specs.Bidding.{least, most, bid_trade, in_range, in_ratio, bidding};
+ghost use Rattle.bid.specs.Bidding.{most, bid_trade, in_range, in_ratio, bidding};
 ghost use Rattle.bid.specs.Laws.Bids.{bid_duties};
 
 use crate::fields::BidQuarter;
@@ -18,6 +18,7 @@ use lot::views::{CappedPrices, Cells};
 use units::side::Side;
 
 // An upward bid sells, a downward one buys.
+// A need turns this round: one function for both would have to be told which, and be no plainer.
 fn direction(side: Side) -> Direction
     ensures { result ≡ towards (is_upward side) }
 {

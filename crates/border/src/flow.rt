@@ -9,6 +9,7 @@ use crate::stretch::Stretch;
 use lot::views::CappedPrices;
 
 // Whether a flow is the same within each step.
+// A chain would compare each part's cells with the part's first, and be no plainer than a line for each step.
 fn steady(step: Step, flow: &[i32; 4]) -> bool
     ensures { result ≡ steady step (at flow.now) }
 {

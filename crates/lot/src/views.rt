@@ -1,4 +1,4 @@
-ghost use Rattle.std.specs.Prelude.{◌≡◌, ℕ, ◌+◌, ◌*◌, ◌<◌, ◌≤◌, true, ◌↔◌, length, take, drop, IsTrue, IsSome, IfSome};
+ghost use Rattle.std.specs.Prelude.{◌≡◌, ℕ, ◌+◌, ◌*◌, ◌<◌, ◌≤◌, ◌↔◌, length, take, drop, IsSome, IfSome};
 ghost use Rattle.lot.specs.Page.{table_of, four, Priced};
 ghost use Rattle.lot.specs.Sum.{every};
 ghost use Rattle.units.specs.Limit.{is_price};

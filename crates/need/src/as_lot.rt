@@ -1,4 +1,4 @@
-ghost use Rattle.std.specs.Prelude.{◌≡◌, not, ◌&&◌, pos, ◌*ℤ◌, int_le};
+ghost use Rattle.std.specs.Prelude.{◌≡◌, not, pos, ◌*ℤ◌, int_le};
 ghost use Rattle.std.specs.Int.{int_max};
 ghost use Rattle.units.specs.Side.{is_upward};
 ghost use Rattle.lot.specs.Sum.{sum, every};
@@ -20,6 +20,7 @@ use units::limit::CAP;
 use units::side::Side;
 
 // An upward need buys, a downward one sells.
+// A bid turns this round: one function for both would have to be told which, and be no plainer.
 fn direction(side: Side) -> Direction
     ensures { result ≡ towards (not (is_upward side)) }
 {
