@@ -1,17 +1,29 @@
 -- Where a reader stands: the bytes and the rows behind it, and the group underway, if any.
-use Rattle.std.specs.Prelude.{ℕ, ◌+◌, ◌-◌, Bool, true, cond, ◌&&◌, Some, None, Ok, Err, Option, Result, ◌==◌}
-use Rattle.std.specs.Option.{unwrap_or}
+use Rattle.std.specs.Prelude.{ℕ, ◌+◌, ◌-◌, Bool, true, false, cond, Some, None, Ok, Err, Option, Result, ◌==◌}
 use Rattle.byte_layer.specs.declared.fault.Told.{Told}
 use Rattle.byte_layer.specs.Fault.{fault}
-use Rattle.bid.specs.Group.{same_area}
 use Rattle.book.specs.declared.row.Row.{Row}
 use Rattle.book.specs.declared.row.Row.TheVariants as kind
+use Rattle.book.specs.declared.stand.Areas.{Areas}
+use Rattle.book.specs.declared.stand.Areas.TheVariants.{Unknown, Same, Mixed}
 use Rattle.book.specs.declared.stand.Gathering.{Gathering}
 use Rattle.book.specs.declared.stand.Stand.{Stand}
 use Rattle.book.specs.Rows.{row_size}
 
--- of the group underway: how many members are still due, its row, the area of its first member, and whether all members
--- so far are of it; with no group underway none is due
+-- the areas of members, with one of an area more
+abbrev pub area_on : Areas → ℕ → Areas
+area_on Unknown a = Same a
+area_on (Same b) a = cond (a == b) (Same b) Mixed
+area_on Mixed a = Mixed
+
+-- they are all one
+abbrev pub is_one : Areas → Bool
+is_one Unknown = true
+is_one (Same b) = true
+is_one Mixed = false
+
+-- of the group underway: how many members are still due, its row, and the areas of its members so far; with no group
+-- underway none is due
 abbrev pub due_in : Option Gathering → ℕ
 due_in None = 0
 due_in (Some g) = g.due
@@ -26,19 +38,15 @@ row_in (Some g) = g.row
 abbrev pub row_of : Stand → ℕ
 row_of s = row_in s.group
 
-abbrev pub first_in : Option Gathering → Option ℕ
-first_in None = None
-first_in (Some g) = g.first
+abbrev pub areas_in : Option Gathering → Areas
+areas_in None = Unknown
+areas_in (Some g) = g.areas
 
-abbrev pub first_of : Stand → Option ℕ
-first_of s = first_in s.group
-
-abbrev pub same_in : Option Gathering → Bool
-same_in None = true
-same_in (Some g) = g.same
+abbrev pub areas_of : Stand → Areas
+areas_of s = areas_in s.group
 
 abbrev pub same_of : Stand → Bool
-same_of s = same_in s.group
+same_of s = is_one (areas_of s)
 
 -- with no group underway: so many bytes and rows
 abbrev pub fresh : ℕ → ℕ → Stand
@@ -53,11 +61,11 @@ onward s r = fresh (s.at + row_size r) (s.rows + 1)
 
 -- one member on, of an area
 abbrev pub member_on : Stand → ℕ → Stand
-member_on s area = record { at = s.at + 51; rows = s.rows + 1; group = Some (record { due = due_of s - 1; row = row_of s; first = Some (unwrap_or (first_of s) area); same = same_of s && same_area (first_of s) area }) }
+member_on s area = record { at = s.at + 51; rows = s.rows + 1; group = Some (record { due = due_of s - 1; row = row_of s; areas = area_on (areas_of s) area }) }
 
 -- a group's own row on
 abbrev pub group_on : Stand → ℕ → Stand
-group_on s n = record { at = s.at + 2; rows = s.rows + 1; group = Some (record { due = n; row = s.rows; first = None; same = true }) }
+group_on s n = record { at = s.at + 2; rows = s.rows + 1; group = Some (record { due = n; row = s.rows; areas = Unknown }) }
 
 -- the last member closes the group, whose members are to be of one area (25)
 abbrev pub closed : Row → Stand → Result (Option (Row × Stand)) Told

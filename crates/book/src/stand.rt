@@ -2,20 +2,38 @@ ghost use Rattle.std.specs.Prelude.{◌≡◌, ℕ, ◌+◌, ◌^◌, ◌<◌, S
 ghost use Rattle.byte_layer.specs.Fault.{heard};
 ghost use Rattle.book.specs.Fault.{told_book};
 ghost use Rattle.book.specs.Rows.{row_size};
-ghost use Rattle.book.specs.Stands.{fresh, begin, due_of, onward, member_on, group_on, closed, after};
+ghost use Rattle.book.specs.Stands.{area_on, fresh, begin, due_of, onward, member_on, group_on, closed, after};
 
 use crate::fault::BookFault;
 use crate::row::Row;
-use bid::group::same_area;
 
-// An exclusive group underway: how many members are still due, its row, the area of its first member, and whether all
-// members so far are of it.
+// The areas of a group's members so far: none yet, all the same, or not.
+#[derive(Clone, Copy, PartialEq, Eq, Debug)]
+pub enum Areas {
+    Unknown,
+    Same(u8),
+    Mixed,
+}
+
+impl Areas {
+    // With one member of an area more.
+    fn and(self, area: u8) -> Areas
+        ensures { result ≡ area_on self area }
+    {
+        match self {
+            Areas::Unknown => Areas::Same(area),
+            Areas::Same(first) if area == first => self,
+            _ => Areas::Mixed,
+        }
+    }
+}
+
+// An exclusive group underway: how many members are still due, its row, and the areas of its members so far.
 #[derive(Clone, Copy)]
 pub struct Gathering {
     pub due: u8,
     pub row: usize,
-    pub first: Option<u8>,
-    pub same: bool,
+    pub areas: Areas,
 }
 
 // Where a reader stands in a text: the bytes and the rows behind it, and the group underway, if any.
@@ -72,8 +90,7 @@ impl Stand {
             group: Some(Gathering {
                 due: group.due - 1,
                 row: group.row,
-                first: group.first.or(Some(area)),
-                same: group.same && same_area(group.first, area),
+                areas: group.areas.and(area),
             }),
         }
     }
@@ -89,8 +106,7 @@ impl Stand {
             group: Some(Gathering {
                 due: members,
                 row: self.rows,
-                first: None,
-                same: true,
+                areas: Areas::Unknown,
             }),
         }
     }
@@ -119,7 +135,7 @@ fn closed_by(row: Row, next: Stand) -> Result<Option<(Row, Stand)>, BookFault>
 {
     match next.group {
         Some(group) if group.due > 0 => Ok(Some((row, next))),
-        Some(group) if !group.same => Err(BookFault::Mixed(group.row)),
+        Some(group) if group.areas == Areas::Mixed => Err(BookFault::Mixed(group.row)),
         _ => Ok(Some((row, Stand::fresh(next.at, next.rows)))),
     }
 }

@@ -1,14 +1,15 @@
 -- Members that are read one after another.
-use Rattle.std.proofs.Common.{◌≡◌, ℕ, ◌+◌, ◌<◌, ◌≤◌, Bool, true, false, ◌&&◌, eqb, List, [], ◌∷◌, ◌++◌, length, take, set, Some, unwrap_or, sym, refl, ap, ◌∙◌, subst, ap₂, arith, length-set, length-append, length-take-le, take_all, add-one}
+use Rattle.std.proofs.Common.{◌≡◌, ℕ, ◌+◌, ◌<◌, ◌≤◌, Bool, true, false, cond, ◌&&◌, eqb, List, [], ◌∷◌, ◌++◌, length, take, set, Some, unwrap_or, sym, refl, ap, ◌∙◌, subst, ap₂, arith, length-set, length-append, length-take-le, take_all, add-one}
 use Rattle.std.proofs.lemmas.Bool.{and_parts, eqb-true, eq-eqb}
 use Rattle.std.proofs.Math.Seq.{take-append_seam}
 use Rattle.std.proofs.lemmas.List.{take_more_set}
 use Rattle.bid.specs.declared.fields.BidFields.{BidFields}
 use Rattle.bid.specs.declared.lawful.Bid.{Bid}
 use Rattle.bid.specs.Group.{same_area}
-use Rattle.book.specs.Stands.{due_of, first_of, same_of}
+use Rattle.book.specs.Stands.{due_of, areas_of, same_of, is_one, area_on}
 use Rattle.book.specs.declared.row.Row.{Row}
 use Rattle.book.specs.declared.row.Row.TheVariants as kind
+use Rattle.book.specs.declared.stand.Areas.TheVariants.{Same, Mixed}
 use Rattle.book.specs.declared.stand.Stand.{Stand}
 use Rattle.group.specs.Group.{in_area, one_area}
 use Rattle.sealed.specs.Ahead.{ahead}
@@ -34,13 +35,21 @@ one_from_in : (a : ℕ) (bs : List Bid) → in_area a bs ≡ true → one_area b
 one_from_in a [] h = refl
 one_from_in a (b ∷ bs) h = let both = and_parts (eqb b.fields.area a) (in_area a bs) h in ap (λ k. in_area k bs) (eqb-true b.fields.area a both.0) ∙ both.1
 
+-- the areas of members that are all of an area, or not, and one more
+one_more : (v : Bool) (a y : ℕ) → area_on (cond v (Same a) Mixed) y ≡ cond (v && eqb y a) (Same a) Mixed
+one_more true a y = refl
+one_more false a y = refl
+
+is_one_test : (v : Bool) (a : ℕ) → is_one (cond v (Same a) Mixed) ≡ v
+is_one_test true a = refl
+is_one_test false a = refl
+
 -- of n members these were read from (s, t) on, the first of some area, and (e, u) is left
 pub record Gathering (s : Stand) (t : List ℕ) (n : ℕ) (bs : List Bid) (e : Stand) (u : List ℕ) : Type 0 where
   pub of : ℕ
   pub rows : ahead s t ≡ bid_rows bs ++ ahead e u
   pub due : (due_of e) + length bs ≡ n
-  pub first : 0 < (due_of e) → (first_of e) ≡ Some of
-  pub same : 0 < (due_of e) → (same_of e) ≡ in_area of bs
+  pub areas : 0 < (due_of e) → areas_of e ≡ cond (in_area of bs) (Same of) Mixed
   pub area : (due_of e) ≡ 0 → in_area of bs ≡ true
 
 gathering_first : {s e : Stand} {t u : List ℕ} {n : ℕ} (b : Bid) → Begun s n → MemberOn s b.fields.area e → ahead s t ≡ kind.Bid b.fields ∷ ahead e u → Gathering s t n (b ∷ []) e u
@@ -53,8 +62,7 @@ gathering_first b g m rows =
       of = a;
       rows = rows;
       due = omega arith;
-      first = λ h. ap first_of (m.on h) ∙ ap (λ o. Some (unwrap_or o a)) g.first;
-      same = λ h. ap same_of (m.on h) ∙ ap₂ (λ v o. v && same_area o a) g.same g.first ∙ eq-eqb a a refl ∙ sym own;
+      areas = λ h. ap areas_of (m.on h) ∙ ap (λ x. area_on x a) g.areas ∙ ap (λ v. cond v (Same a) Mixed) (sym own);
       area = λ _. own;
     }
 
@@ -65,13 +73,15 @@ gathering_next {e = e} {f = f} {v = v} {bs = bs} g below b m rows =
     let left : 0 < (due_of e) = omega arith in
     let x = m.due in
     let l = length-append bs (b ∷ []) in
-    let same = ap₂ (λ w o. w && same_area o b.fields.area) (g.same left) (g.first left) ∙ sym (area_push a bs b) in
+    let y = b.fields.area in
+    let v0 = in_area a bs in
+    let areas = ap (λ z. area_on z y) (g.areas left) ∙ one_more v0 a y ∙ ap (λ w. cond w (Same a) Mixed) (sym (area_push a bs b)) in
+    let same = ap is_one areas ∙ is_one_test (in_area a (bs ++ (b ∷ []))) a in
     record {
       of = a;
       rows = g.rows ∙ ap (λ rs. bid_rows bs ++ rs) rows ∙ rows_push bs b (ahead f v);
       due = omega arith;
-      first = λ h. ap first_of (m.on h) ∙ ap (λ o. Some (unwrap_or o b.fields.area)) (g.first left);
-      same = λ h. ap same_of (m.on h) ∙ same;
+      areas = λ h. ap areas_of (m.on h) ∙ areas;
       area = λ h. sym same ∙ m.closes h;
     }
 

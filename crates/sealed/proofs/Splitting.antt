@@ -45,7 +45,7 @@ pub begins_group : (s : Stand) (k : ℕ) (n : Stand) → after s (kind.Group k) 
 unfolding after
 begins_group s k n e =
     let q = same_stand (kind.Group k) (group_on s k) n e in
-    subst (λ (m : Stand). Begun m k) q (record { due = refl; first = refl; same = refl })
+    subst (λ (m : Stand). Begun m k) q (record { due = refl; areas = refl })
 
 -- ---- meanings
 pub first_single : (o : Filed) (rs : List Row) (r : Row) → filed (r ∷ rs) ≡ o ∷ filed rs → Parted (book_meaning (r ∷ rs)) (filed_meaning o) (book_meaning rs)

@@ -4,7 +4,8 @@ use Rattle.bid.specs.declared.lawful.Bid.{Bid}
 use Rattle.book.specs.declared.row.Row.{Row}
 use Rattle.book.specs.declared.row.Row.TheVariants as kind
 use Rattle.book.specs.declared.stand.Stand.{Stand}
-use Rattle.book.specs.Stands.{member_on, due_of, first_of, same_of}
+use Rattle.book.specs.declared.stand.Areas.TheVariants.{Unknown}
+use Rattle.book.specs.Stands.{member_on, due_of, areas_of, same_of}
 use Rattle.group.specs.Group.{one_area}
 use Rattle.sealed.specs.Ahead.{ahead}
 
@@ -22,8 +23,7 @@ pub record MemberOn (s : Stand) (area : ℕ) (n : Stand) : Type 0 where
 -- a group of n members was just begun
 pub record Begun (s : Stand) (n : ℕ) : Type 0 where
   pub due : due_of s ≡ n
-  pub first : first_of s ≡ None
-  pub same : same_of s ≡ true
+  pub areas : areas_of s ≡ Unknown
 
 -- from (s, t) on, the first n bids of a list were read, all of one area, and (e, u) is left
 pub record Gathered (s : Stand) (t : List ℕ) (n : ℕ) (all : List Bid) (e : Stand) (u : List ℕ) : Type 0 where

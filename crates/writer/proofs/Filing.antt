@@ -11,7 +11,8 @@ use Rattle.book.specs.declared.row.Row.{Row}
 use Rattle.book.specs.declared.row.Row.TheVariants as kind
 use Rattle.book.specs.declared.stand.Stand.{Stand}
 use Rattle.book.specs.Rows.{row_bytes, rowed, row_judged, Four}
-use Rattle.book.specs.Stands.{fresh, onward, group_on, after}
+use Rattle.book.specs.declared.stand.Areas.TheVariants.{Same}
+use Rattle.book.specs.Stands.{area_on, fresh, onward, group_on, after}
 use Rattle.book.specs.Writing.{Begins}
 use Rattle.book.proofs.Trip.{begins_more, begins_stays}
 use Rattle.writer.specs.declared.state.OpenBook.{OpenBook}
@@ -22,7 +23,7 @@ use Rattle.writer.specs.declared.state.Membership.TheVariants.{More, Last}
 use Rattle.writer.specs.Admit.{admitted}
 use Rattle.writer.specs.Calls.{RowFiled, GroupBegun, member_next, MemberFiled}
 use Rattle.writer.specs.Single.{Single}
-use Rattle.writer.specs.Holding.{opened, underway, Holds, Owes, HoldsNext}
+use Rattle.writer.specs.Holding.{opened, areas_for, underway, Holds, Owes, HoldsNext}
 use Rattle.writer.proofs.Admits.{passes, joins}
 
 pub cases_made : {X Y : Type 0} (r : Result X Y) (P R : X → Type 0) (Q : Y → Type 0) → MatchResult r P Q → ((x : X) → P x → R x) → IfOk r R
@@ -64,12 +65,18 @@ abbrev joined_to : Membership → Stand
 joined_to (More g) = underway g
 joined_to (Last b) = opened b
 
+-- a member of the first member's area
+area_kept : (first : Option ℕ) (area : ℕ) → same_area first area ≡ true → area_on (areas_for first) area ≡ Same (unwrap_or first area)
+area_kept None area e = refl
+area_kept (Some b) area e = rw e refl
+
 after_member : (g : GroupUnderway) (f : BidFields) → 0 < g.due → same_area g.first f.area ≡ true → after (underway g) (kind.Bid f) ≡ Ok (Some (kind.Bid f, joined_to (member_next g f.area)))
 unfolding after
 after_member g f h e =
+    let k = area_kept g.first f.area e in
     ⊎_elim
-    (λ x. rw (ne_eqb g.due 0 (λ q. omega arith), e, eq-eqb (g.due - 1) 0 (omega (arith, x.1)), x.0))
-    (λ x. rw (ne_eqb g.due 0 (λ q. omega arith), e, ne_eqb (g.due - 1) 0 (λ q. omega (arith, x.1)), x.0))
+    (λ x. rw (ne_eqb g.due 0 (λ q. omega arith), k, eq-eqb (g.due - 1) 0 (omega (arith, x.1)), x.0))
+    (λ x. rw (ne_eqb g.due 0 (λ q. omega arith), k, ne_eqb (g.due - 1) 0 (λ q. omega (arith, x.1)), x.0))
     (leb_tells g.due 1)
 
 and_false : (x : Bool) → (x && false) ≡ false

@@ -1,6 +1,8 @@
 -- The rows that a text holds for a book that is being written: those that were filed, in order.
-use Rattle.std.specs.Prelude.{ℕ, ◌<◌, ◌≤◌, true, List, ◌++◌, Some}
+use Rattle.std.specs.Prelude.{ℕ, ◌<◌, ◌≤◌, true, List, ◌++◌, Some, None, Option}
 use Rattle.book.specs.declared.row.Row.{Row}
+use Rattle.book.specs.declared.stand.Areas.{Areas}
+use Rattle.book.specs.declared.stand.Areas.TheVariants.{Unknown, Same}
 use Rattle.book.specs.declared.stand.Stand.{Stand}
 use Rattle.book.specs.Stands.{fresh}
 use Rattle.book.specs.Writing.{Begins}
@@ -13,8 +15,12 @@ use Rattle.writer.specs.declared.state.Membership.TheVariants.{More, Last}
 abbrev pub opened : OpenBook → Stand
 opened b = fresh b.length b.rows
 
+abbrev pub areas_for : Option ℕ → Areas
+areas_for None = Unknown
+areas_for (Some area) = Same area
+
 abbrev pub underway : GroupUnderway → Stand
-underway g = record { at = g.length; rows = g.rows; group = Some (record { due = g.due; row = g.group; first = g.first; same = true }) }
+underway g = record { at = g.length; rows = g.rows; group = Some (record { due = g.due; row = g.group; areas = areas_for g.first }) }
 
 -- t holds the rows rs, which the book b has so far
 abbrev pub Holds : List ℕ → OpenBook → List Row → Type 0
