@@ -14,7 +14,6 @@ place '2 numbers read and written by width' 'fn (read|write)_[iu](8|16|32|64)\('
 place '2 quarters of each kind' 'fn (quarter|quarters|write_quarter)\(text|fn (maxima|limits)\(|fn [a-z]*_offers\('
 place '2 filing by kind' 'pub fn (bid|need|border)\(|pub struct (Filed|Begun|Joined) \{'
 place '2 tests and sums of three and four' 'fn (all_four|all_three|add_four)\('
-place '2 walks of a chain' 'while chain\.left\(\) > 0|for (lot|part) in '
 place '3 loops that count, or take by hand' "^\s*('[a-z]+: )?(for .* in [0-9a-z_.]*\.\.|while )"
 place '3 four elements by their names' 'let \[[a-z_]+, [a-z_]+, [a-z_]+, [a-z_]+\] = '
 place '4 conversions by methods' 'pub fn (of|byte)\('

@@ -30,6 +30,7 @@ fn quarter_fine(q: &BidQuarter) -> bool
         && (q.maximum > 0 || q.price == 0)
 }
 
+// A need's quarters are of another type: a function over both would take the maximum by a closure, and be no plainer.
 fn bid_offers(qs: &[BidQuarter; 4]) -> bool
     ensures { result ≡ bid_offers qs.now }
 {

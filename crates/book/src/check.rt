@@ -16,6 +16,7 @@ pub struct Checked {
     pub rows: usize,
 }
 
+// A step may fail, so the rows are taken by `while let` and `?`, which a chain could not pass on.
 fn scan(text: &[u8]) -> Result<Checked, BookFault>
     ensures { heard told_book result ≡ checked text.now }
 {

@@ -1,5 +1,5 @@
 -- The bytes that a machine's word is made of, the highest first, are the octets of its number.
-use Rattle.std.proofs.Common.{◌≡◌, ℕ, zero, suc, ◌+◌, ◌-◌, ◌*◌, ◌/◌, ◌%◌, ◌^◌, ◌<◌, ◌≤◌, List, [], ◌∷◌, ◌++◌, length, get_or, ℤ, sym, refl, ap, ◌∙◌, subst, add_assoc, mul-one, arith, SFits, to_z, of_z}
+use Rattle.std.proofs.Common.{◌≡◌, ℕ, zero, suc, ◌+◌, ◌-◌, ◌*◌, ◌/◌, ◌%◌, ◌^◌, ◌<◌, ◌≤◌, List, [], ◌∷◌, get_or, ℤ, sym, refl, ap, ◌∙◌, subst, add_assoc, mul-one, arith, SFits, to_z, of_z}
 use Rattle.std.specs.Int.{byte_at, byte_worth, bytes_high_first, sum_through}
 use Rattle.byte_layer.specs.Number.{number, octets, twos, signed, Octets}
 use Rattle.byte_layer.proofs.Numbers.{Word, word_signed, word_twos, holds_word, number_below, signed_back, twos_back}

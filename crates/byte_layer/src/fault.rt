@@ -29,7 +29,8 @@ impl fmt::Display for Layer {
     }
 }
 
-// What a fault tells: its number, its layer, and where it was found.
+// What a fault tells: its number, its layer, and where it was found. The number is what is filed and looked up (docs/FAULTS.md);
+// the faults themselves are an enum in each layer.
 #[derive(Clone, Copy, PartialEq, Eq, Debug)]
 pub struct Told {
     pub number: u8,

@@ -148,6 +148,8 @@ impl Number<8> for i64 {
     }
 }
 
+// That a field lies within the text is asked at each call: it is a fact of text, place and width together, not of one value.
+
 // The number at a place of a text. A number that was read, written again where it stood, changes nothing.
 pub fn read<T: Number<N>, const N: usize>(text: &[u8], at: usize) -> T
     requires { at + N ≤ length text.now }

@@ -32,7 +32,7 @@ pub fn read_four<P: Part<K>, const K: usize>(text: &[u8], at: usize) -> [P; 4]
     ]
 }
 
-// Writes four parts one behind the other.
+// Writes four parts one behind the other. A `for` does not go over an array of a type parameter, so the four have names.
 pub fn write_four<P: Part<K>, const K: usize>(text: &mut [u8], at: usize, parts: &[P; 4])
     requires { at + (K + (K + (K + K))) ≤ length text.old }
     ensures { text.new ≡ placed text.old at (parts_bytes P.bytes parts.now) }

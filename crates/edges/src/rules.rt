@@ -176,7 +176,7 @@ const READ: [(usize, &[Sample], u8, Outcome); 20] = [
     ),
 ];
 
-// Tries cases by a reader and by a writer, with the quarters of their own in each place.
+// Tries cases by a reader and by a writer, with the quarters of their own in each place: the places themselves are gone over.
 fn tried(rt: &impl Abort, heap: Global, cases: &[Case]) -> Result<(), Fail> {
     for (n, (samples, wanted)) in cases.iter().enumerate() {
         for k in 0..4 {

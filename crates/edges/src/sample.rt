@@ -7,7 +7,7 @@ use need::elasticity::Elasticity;
 use need::fields::{NeedFields, NeedQuarter};
 use units::side::Side;
 
-// A fault's number, layer and place.
+// A fault's number, layer and place; a tuple, since a table of cases with `Told` written out would be no plainer.
 pub type Fault = (u8, Layer, usize);
 
 // What a text comes to: the book's length and rows, or its first fault.

@@ -19,6 +19,8 @@ pub(crate) fn side_byte(side: Side) -> u8 {
     }
 }
 
+// The numbers of needs and borders are named quarter by quarter: a chain would hide which bytes stand where.
+
 // Bytes, and numbers of four bytes each behind them, the highest byte first.
 fn spell(text: &mut Vec<u8>, front: &[u8], numbers: &[u32]) -> Result<(), AllocError> {
     text.extend_from_slice(front)?;

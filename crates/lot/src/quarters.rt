@@ -13,6 +13,7 @@ pub fn product(a: i32, b: i32) -> i64
 }
 
 // Quantities times prices, or differences of prices, over the four quarters.
+// That numbers are small is asked at each call: a type for it would be made of a row and taken apart one call below.
 pub fn dot(quantities: &[i32; 4], prices: &[i32; 4]) -> i64
     requires quantities { AllWithin 99999 quantities.now }
     requires prices { AllWithin 19999998 prices.now }

@@ -1,5 +1,5 @@
 -- The rows that a text holds for a book that is being written: those that were filed, in order.
-use Rattle.std.specs.Prelude.{ℕ, ◌<◌, ◌≤◌, true, List, ◌++◌, Some, None, Option}
+use Rattle.std.specs.Prelude.{ℕ, ◌<◌, ◌≤◌, List, ◌++◌, Some, None, Option}
 use Rattle.book.specs.declared.row.Row.{Row}
 use Rattle.book.specs.declared.stand.Areas.{Areas}
 use Rattle.book.specs.declared.stand.Areas.TheVariants.{Unknown, Same}

@@ -42,7 +42,7 @@ impl TryFrom<Row> for LawfulRow {
 }
 
 impl LawfulRow {
-    // The same, with the fault in the row of that number.
+    // The same, with the fault in the row of that number: no `try_from`, since it takes a number too.
     pub fn of(row: Row, number: usize) -> Result<LawfulRow, BookFault>
         ensures { heard told_book (row_in result) ≡ row_judged number row }
     {

@@ -1,4 +1,4 @@
-use Rattle.std.proofs.Common.{◌≡◌, ap, ◌∙◌, rules}
+use Rattle.std.proofs.Common.{◌≡◌, ap, ◌∙◌}
 use Rattle.byte_layer.specs.Number.{octets, placed}
 use Rattle.byte_layer.proofs.Numbers.{reads}
 use Rattle.byte_layer.proofs.number.write.Goals as goal

@@ -1,4 +1,4 @@
-use Rattle.std.proofs.Common.{◌≡◌, ℕ, ◌+◌, List, get_or, sym, ap, ◌∙◌, arith}
+use Rattle.std.proofs.Common.{ℕ, ◌+◌, get_or, sym, ap, ◌∙◌, arith}
 use Rattle.byte_layer.specs.Number.{placed}
 use Rattle.byte_layer.proofs.Fours.{fours_bytes}
 use Rattle.byte_layer.proofs.Placed.{placed_four}

@@ -1,5 +1,5 @@
 use Rattle.std.proofs.Common.{refl, ◌∙◌, w32, of_z, to_z}
-use Rattle.byte_layer.proofs.Words.{to_be, one_octet, signed_to}
+use Rattle.byte_layer.proofs.Words.{to_be, signed_to}
 use Rattle.byte_layer.proofs.number.I32Number4.to_octets.Goals as goal
 
 pub returns : goal.returns

@@ -1,5 +1,5 @@
 use Rattle.std.proofs.Common.{refl, ◌∙◌, w8, of_z, to_z}
-use Rattle.byte_layer.proofs.Words.{to_be, one_octet, signed_to, signed_small}
+use Rattle.byte_layer.proofs.Words.{one_octet, signed_to, signed_small}
 use Rattle.byte_layer.proofs.number.I8Number1.to_octets.Goals as goal
 
 pub returns : goal.returns
