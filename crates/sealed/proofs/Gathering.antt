@@ -1,12 +1,11 @@
 -- Members that are read one after another.
-use Rattle.std.proofs.Common.{◌≡◌, ℕ, ◌+◌, ◌<◌, ◌≤◌, Bool, true, false, cond, ◌&&◌, eqb, List, [], ◌∷◌, ◌++◌, length, take, set, Some, unwrap_or, sym, refl, ap, ◌∙◌, subst, ap₂, arith, length-set, length-append, length-take-le, take_all, add-one}
+use Rattle.std.proofs.Common.{◌≡◌, ℕ, ◌+◌, ◌<◌, ◌≤◌, Bool, true, false, cond, ◌&&◌, eqb, List, [], ◌∷◌, ◌++◌, length, take, set, sym, refl, ap, ◌∙◌, subst, arith, length-set, length-append, length-take-le, take_all, add-one}
 use Rattle.std.proofs.lemmas.Bool.{and_parts, eqb-true, eq-eqb}
 use Rattle.std.proofs.Math.Seq.{take-append_seam}
 use Rattle.std.proofs.lemmas.List.{take_more_set}
 use Rattle.bid.specs.declared.fields.BidFields.{BidFields}
 use Rattle.bid.specs.declared.lawful.Bid.{Bid}
-use Rattle.bid.specs.Group.{same_area}
-use Rattle.book.specs.Stands.{due_of, areas_of, same_of, is_one, area_on}
+use Rattle.book.specs.Stands.{due_of, areas_of, is_one, area_on}
 use Rattle.book.specs.declared.row.Row.{Row}
 use Rattle.book.specs.declared.row.Row.TheVariants as kind
 use Rattle.book.specs.declared.stand.Areas.TheVariants.{Same, Mixed}
