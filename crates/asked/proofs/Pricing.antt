@@ -1,5 +1,5 @@
 -- What follows where a test of the caller passes, or does not.
-use Rattle.std.proofs.Common.{◌≡◌, ℕ, ◌≤◌, Bool, true, false, List, length, nat_eq, Some, None, Ok, Err, Option, IsSome, IfSome, MatchResult, sym, ap}
+use Rattle.std.proofs.Common.{◌≡◌, ℕ, ◌≤◌, Bool, true, false, List, length, nat_eq, Some, None, Ok, Err, Option, IsSome, IfSome, MatchResult, sym, refl, ap, arith}
 use Rattle.std.specs.Option.{ok_or}
 use Rattle.std.proofs.lemmas.Bool.{and_parts, and_from, leb-true, eqb-true, eq-eqb}
 use Rattle.lot.specs.Sum.{every}
@@ -10,6 +10,7 @@ use Rattle.lot.specs.declared.views.CappedPrices.{CappedPrices}
 use Rattle.lot.specs.Laws.Joins.{ceiling}
 use Rattle.lot.proofs.Machine.{same_tests}
 use Rattle.lot.proofs.Pricing.{area_passes, priced_from, priced_passes}
+use Rattle.asked.specs.declared.unasked.Unasked.{Unasked}
 use Rattle.asked.specs.declared.unasked.Unasked.TheVariants.{OtherPrices}
 use Rattle.asked.specs.Asked.{may_price, passes, priced as is_priced, Ceiling}
 
@@ -27,6 +28,11 @@ pub priced_or : (q : List ℕ) (x : Option CappedPrices) → (IsSome x → Price
     → MatchResult (ok_or x OtherPrices) (λ p. (is_priced q ≡ Ok tt) × (p.bytes.now ≡ q)) (λ e. is_priced q ≡ Err e)
 priced_or q (Some p) h s = (ap (λ b. passes b OtherPrices) (sym (price_test true q h)), s)
 priced_or q None h s = ap (λ b. passes b OtherPrices) (sym (price_test false q h))
+
+-- a test that passed
+pub test_passed : (b : Bool) (e : Unasked) → passes b e ≡ Ok tt → b ≡ true
+test_passed true e h = refl
+test_passed false e h = let z : ◌≡◌ {A = ℕ} 0 1 = cc in absurd (omega arith)
 
 pub ceils : (m : Meaning) → (m.rows ≤ most_lot_rows → Duties m) → Ceiling m
 ceils m d = record { bounds = λ ask p quoted c f. let few = leb-true m.rows most_lot_rows ask in ceiling m (d few) few c f p quoted }

@@ -1,51 +1,12 @@
-ghost use Rattle.std.specs.Prelude.{◌≡◌, ℕ, MatchResult, Ok, Err};
-ghost use Rattle.lot.specs.Page.{Sized, Ready};
-ghost use Rattle.asked.specs.Asked.{answer, few, held, admitted, priced};
+ghost use Rattle.std.specs.Prelude.{◌≡◌, ℕ};
+ghost use Rattle.asked.specs.Asked.{answer};
 ghost use Rattle.asked.specs.Asked.{refused_of, net_of, worth_of, amount_of, best_of, broken_of, Ceiling};
 ghost use Rattle.asked.specs.Asked.{refused_told, net_told, worth_told, amount_told, best_told, broken_told};
 
-use crate::may::{may_ask, may_hold};
+use crate::may::{admitted, few, held, priced};
 use crate::unasked::Unasked;
 use lot::lot::Lot;
-use lot::views::{CappedPrices, Cells, Prices};
-
-fn few<L: Lot>(lot: &L) -> Result<(), Unasked>
-    ensures { result ≡ few (L.Lot.meaning lot.now) }
-{
-    if may_ask(lot) {
-        Ok(())
-    } else {
-        Err(Unasked::TooManyRows)
-    }
-}
-
-fn held<L: Lot>(lot: &L, cells: Cells<'_>) -> Result<(), Unasked>
-    ensures { result ≡ held (L.Lot.meaning lot.now) cells.entry.bytes.now }
-{
-    few(lot)?;
-    if may_hold(lot, cells) {
-        Ok(())
-    } else {
-        Err(Unasked::OtherCells)
-    }
-}
-
-fn admitted<L: Lot>(lot: &L, cells: Cells<'_>) -> Result<(), Unasked>
-    ensures { result ≡ admitted (L.Lot.meaning lot.now) cells.entry.bytes.now }
-{
-    held(lot, cells)?;
-    if lot.refused_row(cells).is_none() {
-        Ok(())
-    } else {
-        Err(Unasked::RefusedCells)
-    }
-}
-
-fn priced(prices: Prices<'_>) -> Result<CappedPrices<'_>, Unasked>
-    ensures { MatchResult result (λ p. (priced prices.entry.bytes.now ≡ Ok tt) × (p.bytes.now ≡ prices.entry.bytes.now)) (λ e. priced prices.entry.bytes.now ≡ Err e) }
-{
-    prices.capped().ok_or(Unasked::OtherPrices)
-}
+use lot::views::{Cells, Prices};
 
 // The row that is named for admission: none where the cells are admitted.
 pub fn refused<L: Lot>(lot: &L, cells: Cells<'_>) -> Result<Option<usize>, Unasked>

@@ -15,6 +15,7 @@ use units::limit::{are_four, is_area};
 use units::side::Side;
 
 // The operands of a bid's command: area, side, then minimum, maximum and price of each quarter.
+// That the bytes lie within the text is asked at each call: it is a fact of text, place and width together.
 
 impl Part<12> for BidQuarter {
     ghost stands = { quarter_at };

@@ -16,7 +16,7 @@ pub struct Checked {
     pub rows: usize,
 }
 
-// A step may fail, so the rows are taken by `while let` and `?`, which a chain could not pass on.
+// A step may fail, and moves the text and the stand on: a `try_fold` would carry both, and be no plainer than this.
 fn scan(text: &[u8]) -> Result<Checked, BookFault>
     ensures { heard told_book result ≡ checked text.now }
 {

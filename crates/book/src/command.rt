@@ -1,9 +1,10 @@
-ghost use Rattle.std.specs.Prelude.{◌≡◌, ◌≤◌, length};
+ghost use Rattle.std.specs.Prelude.{◌≡◌, ℕ, ◌≤◌, length};
 ghost use Rattle.byte_layer.specs.Fault.{heard, told_byte};
 ghost use Rattle.bid.specs.Format.{bid_read};
 ghost use Rattle.border.specs.Format.{border_read};
 ghost use Rattle.need.specs.Format.{need_read};
 ghost use Rattle.book.specs.Fault.{told_book};
+ghost use Rattle.units.specs.Field.{told_field};
 ghost use Rattle.units.specs.Named.{Names};
 ghost use Rattle.book.specs.Command.{command_byte, command_for, command_size, command_at, is_bid, is_seal};
 ghost use Rattle.book.specs.Rows.{rowed, group_read, row_read};
@@ -16,6 +17,7 @@ use bid::size::GroupSize;
 use border::lawful::Border;
 use byte_layer::fault::ByteFault;
 use need::lawful::Need;
+use units::field::FieldFault;
 use units::named::Unnamed;
 
 // The command bytes.
@@ -113,50 +115,32 @@ impl Command {
     }
 }
 
-fn bid_row(operands: &[u8], row: usize) -> Result<Option<Row>, BookFault>
-    requires { 50 ≤ length operands.now }
-    ensures { heard told_book result ≡ rowed kind.Bid (bid_read row operands.now) }
-{
-    let bid = Bid::read(operands).map_err(|fault| BookFault::in_row(fault, row))?;
-    Ok(Some(Row::Bid(bid.fields())))
-}
-
-fn group_row(members: u8, row: usize) -> Result<Option<Row>, BookFault>
-    ensures { heard told_book result ≡ group_read row members }
-{
-    let size = GroupSize::try_from(members).map_err(|fault| BookFault::in_row(fault, row))?;
-    Ok(Some(Row::Group(size.members())))
-}
-
-fn need_row(operands: &[u8], row: usize) -> Result<Option<Row>, BookFault>
-    requires { 35 ≤ length operands.now }
-    ensures { heard told_book result ≡ rowed kind.Need (need_read row operands.now) }
-{
-    let need = Need::read(operands).map_err(|fault| BookFault::in_row(fault, row))?;
-    Ok(Some(Row::Need(need.fields())))
-}
-
-fn border_row(operands: &[u8], row: usize) -> Result<Option<Row>, BookFault>
-    requires { 35 ≤ length operands.now }
-    ensures { heard told_book result ≡ rowed kind.Border (border_read row operands.now) }
-{
-    let border = Border::read(operands).map_err(|fault| BookFault::in_row(fault, row))?;
-    Ok(Some(Row::Border(border.fields())))
-}
-
 impl Command {
-    // The row of the command at the front of a text; the seal is none.
+    // The row of the command at the front of a text, or the rule that its fields break; the seal is none.
+    #[tactic(auto, unfolding(crate::specs::Rows::row_read))]
+    fn read(self, text: &[u8]) -> Result<Option<Row>, FieldFault>
+        requires { command_size self ≤ length text.now }
+        ensures { (row : ℕ) → heard (told_field row) result ≡ row_read self row text.now }
+    {
+        let row = match (self, text) {
+            (Command::Bid, [_, operands @ ..]) => Row::Bid(Bid::read(operands)?.fields()),
+            (Command::Group, [_, members, ..]) => Row::Group(GroupSize::try_from(
+                *members,
+            )?.members()),
+            (Command::Need, [_, operands @ ..]) => Row::Need(Need::read(operands)?.fields()),
+            (Command::Border, [_, operands @ ..]) => Row::Border(Border::read(operands)?.fields()),
+            (Command::Seal, _) => return Ok(None),
+            _ => return unreachable(),
+        };
+        Ok(Some(row))
+    }
+
+    // The same, with the fault in the row of that number.
     pub fn row(self, text: &[u8], row: usize) -> Result<Option<Row>, BookFault>
         requires { command_size self ≤ length text.now }
         ensures { heard told_book result ≡ row_read self row text.now }
     {
-        match (self, text) {
-            (Command::Bid, [_, operands @ ..]) => bid_row(operands, row),
-            (Command::Group, [_, members, ..]) => group_row(*members, row),
-            (Command::Need, [_, operands @ ..]) => need_row(operands, row),
-            (Command::Border, [_, operands @ ..]) => border_row(operands, row),
-            (Command::Seal, _) => Ok(None),
-            _ => unreachable(),
-        }
+        self.read(text)
+            .map_err(|fault| BookFault::in_row(fault, row))
     }
 }

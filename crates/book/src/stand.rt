@@ -72,6 +72,7 @@ impl Stand {
         }
     }
 
+    // Room for a row more is asked at each call: the definitions build stands, and a ghost field would want its proof there.
     fn onward(self, row: &Row) -> Stand
         requires { (self.at + row_size row.now < 2 ^ 64) × (self.rows < 1024) }
         ensures { result ≡ onward self row.now }
@@ -111,6 +112,7 @@ impl Stand {
         }
     }
 
+    // A row and a stand as a step of the reader gives them, which has neither at the seal.
     // Where a reader stands after a row.
     #[tactic(auto, unfolding(crate::specs::Stands::after))]
     pub fn after(self, row: Row) -> Result<Option<(Row, Stand)>, BookFault>

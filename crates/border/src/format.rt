@@ -15,6 +15,7 @@ use units::field::FieldFault;
 use units::limit::are_four;
 
 // The operands of a border's command: from, to, step, then forward and back of each quarter.
+// That the bytes lie within the text is asked at each call: it is a fact of text, place and width together.
 
 impl Part<8> for BorderQuarter {
     ghost stands = { border_quarter_at };

@@ -5,8 +5,7 @@ ghost use Rattle.border.specs.Step.{step_for, step_byte, step_text};
 use std::fmt;
 use units::named::Unnamed;
 
-// The step of a border, in quarters: within a step its flow is constant. What a step does is a match on it, here and in flow.rt:
-// with three steps and no other, a table of functions would be no plainer.
+// The step of a border, in quarters: within a step its flow is constant. It is matched on, since there are just these three.
 #[derive(Clone, Copy, PartialEq, Eq, Debug)]
 pub enum Step {
     One,

@@ -1,6 +1,7 @@
 ghost use Rattle.std.specs.Prelude.{◌≡◌, Some};
 ghost use Rattle.byte_layer.specs.Fault.{told_byte, layer_text, told_text};
 
+use std::error::Error;
 use std::fmt;
 
 // The layer that a fault comes from, the lowest first.
@@ -29,8 +30,7 @@ impl fmt::Display for Layer {
     }
 }
 
-// What a fault tells: its number, its layer, and where it was found. The number is what is filed and looked up (docs/FAULTS.md);
-// the faults themselves are an enum in each layer.
+// What a fault tells: its number (what is filed and looked up; the faults are enums), its layer, and where it was found.
 #[derive(Clone, Copy, PartialEq, Eq, Debug)]
 pub struct Told {
     pub number: u8,
@@ -60,21 +60,31 @@ pub enum ByteFault {
     Unknown(usize),
 }
 
+// `tell` here and in each layer, and not `From`: the word is the archive's, and a fault of a row's fields takes the row too.
 impl ByteFault {
     pub fn tell(&self) -> Told
         ensures { result ≡ told_byte self.now }
     {
-        match self {
-            ByteFault::Cut(place) => Told {
-                number: 11,
-                layer: Layer::Bytes,
-                place: *place,
-            },
-            ByteFault::Unknown(place) => Told {
-                number: 12,
-                layer: Layer::Bytes,
-                place: *place,
-            },
+        let (number, place) = match self {
+            ByteFault::Cut(place) => (11, *place),
+            ByteFault::Unknown(place) => (12, *place),
+        };
+        Told {
+            number,
+            layer: Layer::Bytes,
+            place,
         }
     }
 }
+
+// A fault is printed as what it tells.
+impl fmt::Display for ByteFault {
+    ghost output = { λ x. Some (told_text (told_byte x)) };
+
+    fn fmt<W: fmt::Write>(&self, f: &mut fmt::Formatter<W>) -> fmt::Result {
+        let told = self.tell();
+        write!(f, "{told}")
+    }
+}
+
+impl Error for ByteFault {}

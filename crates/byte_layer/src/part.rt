@@ -19,6 +19,8 @@ pub trait Part<const K: usize>: Copy {
         ensures written { text.new ≡ placed text.old at (bytes self.now) };
 }
 
+// Each part's place stands in its line, here and in `write_four`: a loop would carry the place along, and be no plainer.
+
 // Four parts that stand one behind the other.
 pub fn read_four<P: Part<K>, const K: usize>(text: &[u8], at: usize) -> [P; 4]
     requires { at + (K + (K + (K + K))) ≤ length text.now }
@@ -32,7 +34,7 @@ pub fn read_four<P: Part<K>, const K: usize>(text: &[u8], at: usize) -> [P; 4]
     ]
 }
 
-// Writes four parts one behind the other. A `for` does not go over an array of a type parameter, so the four have names.
+// Writes four parts one behind the other.
 pub fn write_four<P: Part<K>, const K: usize>(text: &mut [u8], at: usize, parts: &[P; 4])
     requires { at + (K + (K + (K + K))) ≤ length text.old }
     ensures { text.new ≡ placed text.old at (parts_bytes P.bytes parts.now) }

@@ -23,8 +23,7 @@ const CUTS: [(&[Sample], usize, Outcome); 12] = [
     (&[Group(2), Need(1)], 2, Err((21, Book, 1))),
 ];
 
-// Rows that are cut at every byte of the last of them tell where it begins. The lengths themselves are gone over, here and in
-// opened.rt.
+// Rows that are cut at every byte of the last of them tell where it begins: the lengths themselves are gone over.
 fn cut_rows(
     rt: &impl Abort,
     heap: Global,

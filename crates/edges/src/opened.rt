@@ -132,7 +132,7 @@ fn opened(text: &[u8]) -> (usize, usize, bool) {
     (book.length(), book.rows(), ends)
 }
 
-// A text that fails its check, as one that is cut anywhere, opens as the book of no rows.
+// A text that fails its check, as one that is cut anywhere (the lengths are gone over), opens as the book of no rows.
 #[test]
 fn texts_opened(rt: HostRuntime) {
     let text: &[u8] = BOOK;
@@ -172,6 +172,7 @@ fn rows_of_a_sealed_book(rt: HostRuntime) -> Result<(), Fail> {
     Ok(())
 }
 
+// The quarters by name, since the fields are set side by side.
 #[test]
 fn fields_of_the_last_row(rt: HostRuntime) -> Result<(), Fail> {
     let Some(Row::Bid(bid)) = SealedBook::open(BOOK).row(2) else {

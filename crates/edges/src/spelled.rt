@@ -39,7 +39,7 @@ fn spell_bid(text: &mut Vec<u8>, bid: BidFields) -> Result<(), AllocError> {
 }
 
 fn spell_need(text: &mut Vec<u8>, need: NeedFields) -> Result<(), AllocError> {
-    let elastic = matches!(need.elasticity, Elasticity::Elastic);
+    let elastic = need.elasticity == Elasticity::Elastic;
     let front = [0x4E, need.area, side_byte(need.side), u8::from(elastic)];
     let [a, b, c, d] = need.quarters;
     let numbers = [

@@ -81,9 +81,7 @@ pub(crate) fn write(text: &mut [u8], samples: &[Sample], k: usize) -> Outcome {
     for sample in samples {
         let (next, filed) = writing.file(text, sample.row(k));
         writing = next;
-        if let Err(fault) = filed {
-            return Err(fault);
-        }
+        filed?;
     }
     match writing.struck().seal(text) {
         Ok(length) => Ok((length, samples.len())),

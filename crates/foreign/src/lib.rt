@@ -6,8 +6,7 @@ ghost use Rattle.foreign.specs.Outcome.{fault_number, place_or_length, rows_foun
 
 use book::check::check;
 
-// The check of a text for programs in other languages: plain numbers in place of the result,
-// since C has none.
+// The check of a text for programs in other languages: plain numbers in place of the result.
 
 // The number of the first fault, or 0 where the text passes.
 #[unsafe(no_mangle)]

@@ -37,8 +37,8 @@ fn grouped(bids: &[Bid], size: GroupSize) -> Option<ExclusiveGroup>
 }
 
 impl ExclusiveGroup {
-    // The group of these bids, or none where they are fewer than two, more than eight, or not of one area. Which it is,
-    // a reader and a writer have told before, so an error type would have no taker.
+    // None, and no error: a reader and a writer tell which rule is broken, and nobody takes it here.
+    // The group of these bids, or none where they are fewer than two, more than eight, or not of one area.
     pub fn of(bids: &[Bid]) -> Option<ExclusiveGroup>
         ensures { MatchOption result (may_group bids.now ≡ false) (λ g. (may_group bids.now ≡ true) × (take g.size.members g.members ≡ bids.now)) }
     {

@@ -12,6 +12,7 @@ use lot::views::{CappedPrices, Cells};
 pub struct Chained<C>(pub C);
 
 impl<C: Chain> Chained<C> {
+    // That cells are the lots' is asked at each call, as by the questions themselves (lot.rt).
     // The parts of the cells, from the first lot's to the last's.
     fn parts<'a>(&self, cells: Cells<'a>) -> Parts<'a, C>
         requires { Sized (C.Chain.meaning self.now.0) cells.bytes.now }
@@ -74,7 +75,7 @@ impl<C: Chain> Lot for Chained<C> {
         total
     }
 
-    // A `for` here and in `broken_row`: the closure of a `find_map` would have to state again what the question asks.
+    // A `for` in each question: tried as `find_map`, whose closure would have to state again what the question asks.
     fn refused_row(&self, cells: Cells<'_>) -> Option<usize> {
         for part in self.parts(cells) {
             if let Some(refused) = part.lot.refused_row(part.cells) {

@@ -54,7 +54,7 @@ impl<A: Lot, B: Lot> Lot for Joined<A, B> {
     }
 
     fn refused_row(&self, cells: Cells<'_>) -> Option<usize> {
-        // No `or_else`, here and in `broken_row`: its closure would have to state again what the second's question asks.
+        // No `or_else`, here and in `broken_row`: tried, and its closure would have to state again what the question asks.
         if let Some(refused) = self.0.refused_row(front_part(&self.0, cells)) {
             return Some(refused);
         }

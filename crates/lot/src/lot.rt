@@ -8,6 +8,8 @@ use crate::views::{CappedPrices, Cells};
 // The most rows of a lot that is questioned. A count goes one further, and no more.
 pub const MOST_LOT_ROWS: usize = 4_096;
 
+// That cells are the lot's is asked at each question: it is a fact of lot and cells together, and joined lots split both.
+
 // A lot: anything that can move power in the hour. What it means is one value, fixed when the lot is made; it owes the
 // five laws, and answers eight questions by its meaning. Beyond the counts it is questioned only with at most 4,096
 // rows, at prices within the cap, and for figures only with cells that it admits.

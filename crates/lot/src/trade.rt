@@ -8,7 +8,7 @@ use crate::views::CappedPrices;
 use std::array;
 
 // What a trade does with power. Whoever sells puts it in; whoever buys takes it out.
-#[derive(Clone, Copy)]
+#[derive(Clone, Copy, PartialEq, Eq, Debug)]
 pub enum Direction {
     Sells,
     Buys,
@@ -65,6 +65,8 @@ impl Direction {
         array::from_fn(|t| self.gain(prices[t], limits[t]))
     }
 }
+
+// That numbers are small is asked at each call, as in quarters.rt, and for the reason given there.
 
 // Power traded in one area, at a price a quarter: its limits.
 #[derive(Clone, Copy)]

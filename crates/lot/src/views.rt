@@ -13,6 +13,8 @@ pub const ROW_BYTES: usize = 17;
 // The bytes of the prices of 32 areas.
 const PRICE_BYTES: usize = 544;
 
+// Rows, areas and quarters are plain numbers, bounded at each call: types for them would be made and taken apart at each.
+
 // The number of a quarter in a row of 17 bytes.
 fn number_in(bytes: &[u8], row: usize, quarter: usize) -> i32
     requires { (quarter < 4) × (17 * row + 17 ≤ length bytes.now) }
@@ -102,6 +104,7 @@ impl<'a> Prices<'a> {
         self.area(area).iter().all(|price| is_price(*price))
     }
 
+    // None, and no error: which price is not within the cap, nobody takes here.
     // The same prices, where they are those of the 32 areas, each within the cap.
     pub fn capped(self) -> Option<CappedPrices<'a>>
         ensures when { IsSome result ↔ Priced self.entry.bytes.now }

@@ -47,6 +47,7 @@ fn most_earned(maximum: i32, gain: i32) -> i64
     product(maximum, gain).max(0)
 }
 
+// That numbers are small is asked at the call: a type for it would be made of a row and taken apart one call below.
 // What the four quarters earn at most.
 fn most_earned_in(maxima: &[i32; 4], gains: &[i32; 4]) -> i64
     requires maxima { AllWithin 99999 maxima.now }
@@ -71,6 +72,7 @@ fn no_loss_in(cells: &[i32; 4], gains: &[i32; 4]) -> bool
 }
 
 impl Need {
+    // A bid's quarters are of another type: what both do here is a line each, and one over both would take a closure.
     // The prices by quarter.
     fn limits(&self) -> [i32; 4]
         ensures { result ≡ four (need_trade self.now.fields).limit }

@@ -40,6 +40,7 @@ fn quarter_fine(elasticity: Elasticity, q: &NeedQuarter) -> bool
         && (may_price(elasticity, q.maximum) || q.price == 0)
 }
 
+// A bid's quarters are of another type: a function over both would take the maximum by a closure, and be no plainer.
 fn need_offers(qs: &[NeedQuarter; 4]) -> bool
     ensures { result ≡ need_offers qs.now }
 {

@@ -16,6 +16,7 @@ use units::limit::{are_four, is_area};
 use units::side::Side;
 
 // The operands of a need's command: area, side, elasticity, then maximum and price of each quarter.
+// That the bytes lie within the text is asked at each call: it is a fact of text, place and width together.
 
 impl Part<8> for NeedQuarter {
     ghost stands = { need_quarter_at };

@@ -5,6 +5,7 @@ use crate::order::Order;
 use lot::lot::Lot;
 use lot::views::{CappedPrices, Cells};
 
+// Each question is passed on by a match: a function that hands out a `dyn` lot is refused.
 // An order answers as the lot of its kind.
 impl Lot for Order {
     ghost meaning = { λ x. order_meaning x };

@@ -1,7 +1,7 @@
 use std::error::Error;
 use std::fmt;
 
-// A byte of a text that names nothing where it stands: no side, no elasticity, no step.
+// A byte of a text that names nothing where it stands: no command, no side, no elasticity, no step.
 #[derive(Clone, Copy, PartialEq, Eq, Debug)]
 pub struct Unnamed(pub u8);
 

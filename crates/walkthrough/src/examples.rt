@@ -133,10 +133,7 @@ fn pair(
     ensures { IfOk result (λ b. (rs : List Row) → Holds text.old book rs → Holds text.new b (rs ++ kind.Group 2 ∷ kind.Bid first ∷ kind.Bid second ∷ [])) }
 {
     let begun = book.group(text, 2)?;
-    let filed = match begun.next.member(text, first) {
-        Ok(filed) => filed,
-        Err(refused) => return Err(struck(refused)),
-    };
+    let filed = begun.next.member(text, first).map_err(struck)?;
     let group = match filed.next {
         Membership::More(group) => group,
         Membership::Last(back) => return Err(Refused {
@@ -144,10 +141,7 @@ fn pair(
             fault: BookFault::Member(filed.row),
         }),
     };
-    let filed = match group.member(text, second) {
-        Ok(filed) => filed,
-        Err(refused) => return Err(struck(refused)),
-    };
+    let filed = group.member(text, second).map_err(struck)?;
     match filed.next {
         Membership::Last(book) => Ok(book),
         Membership::More(group) => Err(Refused {

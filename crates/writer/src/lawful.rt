@@ -49,6 +49,7 @@ impl LawfulRow {
         LawfulRow::try_from(row).map_err(|fault| BookFault::in_row(fault, number))
     }
 
+    // That the bytes lie within the text is asked at the call: it is a fact of text, place and width together.
     // Writes the row's command into a text from a place on.
     pub fn write(&self, text: &mut [u8], at: usize)
         requires { at + row_size (row_of self.now) ≤ length text.old }

@@ -26,6 +26,7 @@ impl OpenBook {
         OpenBook { length: 0, rows: 0 }
     }
 
+    // A refusal is matched in the calls below, since `map_err` would take the book into its closure.
     // The row as the next of the book, or what it is refused for.
     fn admit(&self, text: &[u8], row: Row) -> Result<LawfulRow, BookFault>
         ensures { heard told_book (row_in result) ≡ admitted (length text.now) self.now.length self.now.rows row }

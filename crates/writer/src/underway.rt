@@ -11,6 +11,7 @@ use book::row::Row;
 use units::limit::are_four;
 
 impl GroupUnderway {
+    // Room for a row more is asked at the call: the definitions build such values, and a ghost field would want its proof there.
     // What a member of that area makes of the group.
     fn onward(self, area: u8) -> Membership
         requires { (self.length + 51 < 2 ^ 64) × (self.rows < 1024) }
