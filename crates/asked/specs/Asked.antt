@@ -1,5 +1,6 @@
 -- Questions to a lot by a caller who has shown nothing: an answer where the question may be asked, else why it may not.
 use Rattle.std.specs.Prelude.{◌≡◌, ℕ, ◌*◌, Bool, true, false, cond, ◌&&◌, List, length, ℤ, ◌≤ℤ◌, Some, None, Option, Ok, Err, Result, codes, ◌==◌, nat_le, nat_lt}
+use Rattle.std.specs.Result.{result_and}
 use Rattle.units.specs.Limit.{is_price}
 use Rattle.lot.specs.Sum.{every}
 use Rattle.lot.specs.Meaning.{Meaning, Cells, Prices, Feasible, Quoted, cell_rows, lot_net, amount, welfare}
@@ -50,16 +51,7 @@ best_of m q = when (may_ask m && may_price q) (m.best (table_of q))
 abbrev pub broken_of : Meaning → List ℕ → List ℕ → Option (Option ℕ)
 broken_of m b q = when (may_figure m b && may_price q) (m.broken (table_of b) (table_of q))
 
--- the answer in a result, if it is one
-abbrev pub answer : {A : Type 0} → Result A Unasked → Option A
-answer (Ok x) = Some x
-answer (Err e) = None
-
--- one test after another: the first that fails tells why
-abbrev pub then : {A : Type 0} → Result (Unit {0}) Unasked → Result A Unasked → Result A Unasked
-then (Ok x) y = y
-then (Err e) y = Err e
-
+-- a test, or why it fails; of tests one after another the first that fails tells why
 abbrev pub passes : Bool → Unasked → Result (Unit {0}) Unasked
 passes b e = cond b (Ok tt) (Err e)
 
@@ -68,10 +60,10 @@ abbrev pub few : Meaning → Result (Unit {0}) Unasked
 few m = passes (may_ask m) TooManyRows
 
 abbrev pub held : Meaning → List ℕ → Result (Unit {0}) Unasked
-held m b = then (few m) (passes (length b == 17 * cell_rows m) OtherCells)
+held m b = result_and (few m) (passes (length b == 17 * cell_rows m) OtherCells)
 
 abbrev pub admitted : Meaning → List ℕ → Result (Unit {0}) Unasked
-admitted m b = then (held m b) (passes (is_none (m.refused (table_of b))) RefusedCells)
+admitted m b = result_and (held m b) (passes (is_none (m.refused (table_of b))) RefusedCells)
 
 -- the bytes are prices within the cap
 abbrev pub priced : List ℕ → Result (Unit {0}) Unasked
@@ -79,22 +71,22 @@ priced q = passes (may_price q) OtherPrices
 
 -- what is told
 abbrev pub refused_told : Meaning → List ℕ → Result (Option ℕ) Unasked
-refused_told m b = then (held m b) (Ok (m.refused (table_of b)))
+refused_told m b = result_and (held m b) (Ok (m.refused (table_of b)))
 
 abbrev pub net_told : Meaning → List ℕ → ℕ → ℕ → Result ℤ Unasked
-net_told m b a t = then (admitted m b) (then (passes (nat_lt a 32 && nat_lt t 4) NoPlace) (Ok (lot_net m (table_of b) a t)))
+net_told m b a t = result_and (admitted m b) (result_and (passes (nat_lt a 32 && nat_lt t 4) NoPlace) (Ok (lot_net m (table_of b) a t)))
 
 abbrev pub worth_told : Meaning → List ℕ → ℕ → Result ℤ Unasked
-worth_told m b r = then (admitted m b) (then (passes (nat_lt r m.rows) NoPlace) (Ok (m.worth (table_of b) r)))
+worth_told m b r = result_and (admitted m b) (result_and (passes (nat_lt r m.rows) NoPlace) (Ok (m.worth (table_of b) r)))
 
 abbrev pub amount_told : Meaning → List ℕ → List ℕ → ℕ → Result ℤ Unasked
-amount_told m b q r = then (admitted m b) (then (priced q) (then (passes (nat_lt r m.rows) NoPlace) (Ok (amount m (table_of b) (table_of q) r))))
+amount_told m b q r = result_and (admitted m b) (result_and (priced q) (result_and (passes (nat_lt r m.rows) NoPlace) (Ok (amount m (table_of b) (table_of q) r))))
 
 abbrev pub best_told : Meaning → List ℕ → Result ℤ Unasked
-best_told m q = then (few m) (then (priced q) (Ok (m.best (table_of q))))
+best_told m q = result_and (few m) (result_and (priced q) (Ok (m.best (table_of q))))
 
 abbrev pub broken_told : Meaning → List ℕ → List ℕ → Result (Option ℕ) Unasked
-broken_told m b q = then (admitted m b) (then (priced q) (Ok (m.broken (table_of b) (table_of q))))
+broken_told m b q = result_and (admitted m b) (result_and (priced q) (Ok (m.broken (table_of b) (table_of q))))
 
 -- how a reason is printed
 abbrev pub unasked_text : Unasked → List ℕ

@@ -1,5 +1,5 @@
 ghost use Rattle.std.specs.Prelude.{◌≡◌, ℕ};
-ghost use Rattle.asked.specs.Asked.{answer};
+ghost use Rattle.std.specs.Result.{result_ok};
 ghost use Rattle.asked.specs.Asked.{refused_of, net_of, worth_of, amount_of, best_of, broken_of, Ceiling};
 ghost use Rattle.asked.specs.Asked.{refused_told, net_told, worth_told, amount_told, best_told, broken_told};
 
@@ -10,7 +10,7 @@ use lot::views::{Cells, Prices};
 
 // The row that is named for admission: none where the cells are admitted.
 pub fn refused<L: Lot>(lot: &L, cells: Cells<'_>) -> Result<Option<usize>, Unasked>
-    ensures answer { answer result ≡ refused_of (L.Lot.meaning lot.now) cells.entry.bytes.now }
+    ensures answer { result_ok result ≡ refused_of (L.Lot.meaning lot.now) cells.entry.bytes.now }
     ensures told { result ≡ refused_told (L.Lot.meaning lot.now) cells.entry.bytes.now }
 {
     held(lot, cells)?;
@@ -19,7 +19,7 @@ pub fn refused<L: Lot>(lot: &L, cells: Cells<'_>) -> Result<Option<usize>, Unask
 
 // The lot's net at a place.
 pub fn net<L: Lot>(lot: &L, cells: Cells<'_>, area: usize, quarter: usize) -> Result<i64, Unasked>
-    ensures answer { answer result ≡ net_of (L.Lot.meaning lot.now) cells.entry.bytes.now area quarter }
+    ensures answer { result_ok result ≡ net_of (L.Lot.meaning lot.now) cells.entry.bytes.now area quarter }
     ensures told { result ≡ net_told (L.Lot.meaning lot.now) cells.entry.bytes.now area quarter }
 {
     admitted(lot, cells)?;
@@ -31,7 +31,7 @@ pub fn net<L: Lot>(lot: &L, cells: Cells<'_>, area: usize, quarter: usize) -> Re
 
 // What a row is worth.
 pub fn worth<L: Lot>(lot: &L, cells: Cells<'_>, row: usize) -> Result<i64, Unasked>
-    ensures answer { answer result ≡ worth_of (L.Lot.meaning lot.now) cells.entry.bytes.now row }
+    ensures answer { result_ok result ≡ worth_of (L.Lot.meaning lot.now) cells.entry.bytes.now row }
     ensures told { result ≡ worth_told (L.Lot.meaning lot.now) cells.entry.bytes.now row }
 {
     admitted(lot, cells)?;
@@ -48,7 +48,7 @@ pub fn amount<L: Lot>(
     prices: Prices<'_>,
     row: usize,
 ) -> Result<i64, Unasked>
-    ensures answer { answer result ≡ amount_of (L.Lot.meaning lot.now) cells.entry.bytes.now prices.entry.bytes.now row }
+    ensures answer { result_ok result ≡ amount_of (L.Lot.meaning lot.now) cells.entry.bytes.now prices.entry.bytes.now row }
     ensures told { result ≡ amount_told (L.Lot.meaning lot.now) cells.entry.bytes.now prices.entry.bytes.now row }
 {
     admitted(lot, cells)?;
@@ -61,7 +61,7 @@ pub fn amount<L: Lot>(
 
 // The greatest surplus at the prices: a ceiling on the welfare of every feasible clearing.
 pub fn best<L: Lot>(lot: &L, prices: Prices<'_>) -> Result<i64, Unasked>
-    ensures answer { answer result ≡ best_of (L.Lot.meaning lot.now) prices.entry.bytes.now }
+    ensures answer { result_ok result ≡ best_of (L.Lot.meaning lot.now) prices.entry.bytes.now }
     ensures told { result ≡ best_told (L.Lot.meaning lot.now) prices.entry.bytes.now }
     ensures ceiling { Ceiling (L.Lot.meaning lot.now) }
 {
@@ -76,7 +76,7 @@ pub fn broken<L: Lot>(
     cells: Cells<'_>,
     prices: Prices<'_>,
 ) -> Result<Option<usize>, Unasked>
-    ensures answer { answer result ≡ broken_of (L.Lot.meaning lot.now) cells.entry.bytes.now prices.entry.bytes.now }
+    ensures answer { result_ok result ≡ broken_of (L.Lot.meaning lot.now) cells.entry.bytes.now prices.entry.bytes.now }
     ensures told { result ≡ broken_told (L.Lot.meaning lot.now) cells.entry.bytes.now prices.entry.bytes.now }
 {
     admitted(lot, cells)?;

@@ -51,7 +51,7 @@ fn shares_before(cells: &[i32; 4], most: &[i32; 4], t: usize) -> bool
 }
 
 impl Bid {
-    // A need's quarters are of another type: what both do here is a line each, and one over both would take a closure.
+    // A need's quarters are of another type: what both do here is a line or two each, and one over both would take a closure.
     // The prices by quarter.
     fn limits(&self) -> [i32; 4]
         ensures same { result ≡ four (bid_trade self.now.fields).limit }

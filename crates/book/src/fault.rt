@@ -42,6 +42,7 @@ impl BookFault {
         }
     }
 
+    // `tell`, and not `From`, as in each layer (byte_layer).
     pub fn tell(&self) -> Told
         ensures { result ≡ told_book self.now }
     {

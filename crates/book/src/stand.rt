@@ -66,10 +66,7 @@ impl Stand {
     pub fn due(&self) -> u8
         ensures { result ≡ due_of self.now }
     {
-        match self.group {
-            Some(group) => group.due,
-            None => 0,
-        }
+        self.group.map_or(0, |group| group.due)
     }
 
     // Room for a row more is asked at each call: the definitions build stands, and a ghost field would want its proof there.
@@ -125,8 +122,7 @@ impl Stand {
                 _ => Ok(Some((row, self.onward(&row)))),
             },
             Row::Group(members) => Ok(Some((row, self.group_on(members)))),
-            Row::Need(_) => Ok(Some((row, self.onward(&row)))),
-            Row::Border(_) => Ok(Some((row, self.onward(&row)))),
+            Row::Need(_) | Row::Border(_) => Ok(Some((row, self.onward(&row)))),
         }
     }
 }

@@ -87,6 +87,7 @@ impl Border {
         first.and(second.and(latter))
     }
 
+    // The step is matched on, here and in `keeps_rule`: three arms are no longer than a table of what to do.
     // The greatest rents of the steps, summed.
     pub(crate) fn greatest_rent(&self, prices: CappedPrices<'_>) -> i64
         ensures { result ≡ (flowing self.now.fields).best (table_of prices.entry.bytes.now) }

@@ -1,7 +1,7 @@
 -- Four parts of one kind, one behind the other behind a head, as the quarters of a command stand.
 use Rattle.std.proofs.Common.{◌≡◌, ℕ, ◌+◌, ◌≤◌, List, [], ◌∷◌, ◌++◌, length, get_or, take, drop, sym, refl, ap, ◌∙◌, append_assoc, append-nil, arith, length-append}
 use Rattle.byte_layer.specs.Number.{Octets}
-use Rattle.byte_layer.specs.Part.{parts_bytes}
+use Rattle.std.specs.List.{flat_map}
 use Rattle.byte_layer.proofs.Parts.{take_five}
 
 -- parts of k bytes: a part among other bytes is read again, and the bytes of one that was read are those that stood there
@@ -32,7 +32,7 @@ four_list d (x ∷ y ∷ z ∷ w ∷ []) e = refl
 four_list d (x ∷ y ∷ z ∷ w ∷ v ∷ xs) e = absurd (omega arith)
 
 -- the bytes of four parts, by their places; in their place would stand d0 to d3
-pub fours_bytes : {X : Type 0} (bytes : X → List ℕ) (d0 d1 d2 d3 : X) (xs : List X) → length xs ≡ 4 → parts_bytes bytes xs ≡ bytes (get_or xs 0 d0) ++ (bytes (get_or xs 1 d1) ++ (bytes (get_or xs 2 d2) ++ bytes (get_or xs 3 d3)))
+pub fours_bytes : {X : Type 0} (bytes : X → List ℕ) (d0 d1 d2 d3 : X) (xs : List X) → length xs ≡ 4 → flat_map bytes xs ≡ bytes (get_or xs 0 d0) ++ (bytes (get_or xs 1 d1) ++ (bytes (get_or xs 2 d2) ++ bytes (get_or xs 3 d3)))
 fours_bytes bytes d0 d1 d2 d3 [] e = absurd (omega arith)
 fours_bytes bytes d0 d1 d2 d3 (x ∷ []) e = absurd (omega arith)
 fours_bytes bytes d0 d1 d2 d3 (x ∷ y ∷ []) e = absurd (omega arith)

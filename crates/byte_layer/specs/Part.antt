@@ -1,11 +1,6 @@
 -- Parts of one kind and size, one behind the other, as the quarters of a row stand.
-use Rattle.std.specs.Prelude.{ℕ, ◌+◌, List, [], ◌∷◌, ◌++◌}
+use Rattle.std.specs.Prelude.{ℕ, ◌+◌, List, [], ◌∷◌}
 
 -- the four that stand in t from the place `at` on, of k bytes each
 abbrev pub four_at : {P : Type 0} → (List ℕ → ℕ → P) → ℕ → List ℕ → ℕ → List P
 four_at stands k t at = stands t at ∷ stands t (at + k) ∷ stands t (at + k + k) ∷ stands t (at + k + k + k) ∷ []
-
--- the bytes of parts
-abbrev pub parts_bytes : {P : Type 0} → (P → List ℕ) → List P → List ℕ
-parts_bytes bytes [] = []
-parts_bytes bytes (p ∷ ps) = bytes p ++ parts_bytes bytes ps

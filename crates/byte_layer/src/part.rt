@@ -1,7 +1,9 @@
 ghost use Rattle.std.specs.Prelude.{◌≡◌, ℕ, ◌+◌, ◌≤◌, List, length};
+ghost use Rattle.std.specs.List.{flat_map};
 ghost use Rattle.byte_layer.specs.Number.{placed};
-ghost use Rattle.byte_layer.specs.Part.{four_at, parts_bytes};
+ghost use Rattle.byte_layer.specs.Part.{four_at};
 
+// That a part lies within the text is asked at each call, as in number.rt.
 // A part of a row, as its share of one quarter: `K` bytes of a text, read and written at a place.
 pub trait Part<const K: usize>: Copy {
     // The part whose bytes stand at a place of a text.
@@ -37,7 +39,7 @@ pub fn read_four<P: Part<K>, const K: usize>(text: &[u8], at: usize) -> [P; 4]
 // Writes four parts one behind the other.
 pub fn write_four<P: Part<K>, const K: usize>(text: &mut [u8], at: usize, parts: &[P; 4])
     requires { at + (K + (K + (K + K))) ≤ length text.old }
-    ensures { text.new ≡ placed text.old at (parts_bytes P.bytes parts.now) }
+    ensures { text.new ≡ placed text.old at (flat_map P.bytes parts.now) }
 {
     let [a, b, c, d] = parts;
     a.write(text, at);

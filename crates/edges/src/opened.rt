@@ -172,19 +172,17 @@ fn rows_of_a_sealed_book(rt: HostRuntime) -> Result<(), Fail> {
     Ok(())
 }
 
-// The quarters by name, since the fields are set side by side.
 #[test]
 fn fields_of_the_last_row(rt: HostRuntime) -> Result<(), Fail> {
     let Some(Row::Bid(bid)) = SealedBook::open(BOOK).row(2) else {
         return Err(Fail::new("the last row is no bid"));
     };
-    let [a, b, c, d] = bid.quarters;
     assert_eq!(rt; (bid.area, side_byte(bid.side)), (31, 1));
     assert_eq!(rt;
         (
-            [a.minimum, b.minimum, c.minimum, d.minimum],
-            [a.maximum, b.maximum, c.maximum, d.maximum],
-            [a.price, b.price, c.price, d.price],
+            bid.quarters.map(|q| q.minimum),
+            bid.quarters.map(|q| q.maximum),
+            bid.quarters.map(|q| q.price),
         ),
         (
             [0, 1, 0, 256],

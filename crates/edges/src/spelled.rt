@@ -19,8 +19,6 @@ pub(crate) fn side_byte(side: Side) -> u8 {
     }
 }
 
-// The numbers of needs and borders are named quarter by quarter: a chain would hide which bytes stand where.
-
 // Bytes, and numbers of four bytes each behind them, the highest byte first.
 fn spell(text: &mut Vec<u8>, front: &[u8], numbers: &[u32]) -> Result<(), AllocError> {
     text.extend_from_slice(front)?;
@@ -41,18 +39,11 @@ fn spell_bid(text: &mut Vec<u8>, bid: BidFields) -> Result<(), AllocError> {
 fn spell_need(text: &mut Vec<u8>, need: NeedFields) -> Result<(), AllocError> {
     let elastic = need.elasticity == Elasticity::Elastic;
     let front = [0x4E, need.area, side_byte(need.side), u8::from(elastic)];
-    let [a, b, c, d] = need.quarters;
-    let numbers = [
-        a.maximum,
-        a.price.cast_unsigned(),
-        b.maximum,
-        b.price.cast_unsigned(),
-        c.maximum,
-        c.price.cast_unsigned(),
-        d.maximum,
-        d.price.cast_unsigned(),
-    ];
-    spell(text, &front, &numbers)
+    spell(text, &front, &[])?;
+    for q in need.quarters {
+        spell(text, &[], &[q.maximum, q.price.cast_unsigned()])?;
+    }
+    Ok(())
 }
 
 fn spell_border(text: &mut Vec<u8>, border: BorderFields) -> Result<(), AllocError> {
@@ -61,11 +52,11 @@ fn spell_border(text: &mut Vec<u8>, border: BorderFields) -> Result<(), AllocErr
         Step::Two => 2,
         Step::Four => 4,
     };
-    let [a, b, c, d] = border.quarters;
-    let numbers = [
-        a.forward, a.back, b.forward, b.back, c.forward, c.back, d.forward, d.back,
-    ];
-    spell(text, &[0x4C, border.from, border.to, step], &numbers)
+    spell(text, &[0x4C, border.from, border.to, step], &[])?;
+    for q in border.quarters {
+        spell(text, &[], &[q.forward, q.back])?;
+    }
+    Ok(())
 }
 
 // A row's command; a price below zero is spelled as the number that has its bytes.
@@ -100,10 +91,9 @@ pub(crate) fn told(fault: BookFault) -> Fault {
 
 // What a reader tells of a text.
 pub(crate) fn read(text: &[u8]) -> Outcome {
-    match check(text) {
-        Ok(found) => Ok((found.length, found.rows)),
-        Err(fault) => Err(told(fault)),
-    }
+    check(text)
+        .map(|found| (found.length, found.rows))
+        .map_err(told)
 }
 
 // What a reader tells of rows, and bytes behind them.

@@ -83,10 +83,10 @@ pub(crate) fn write(text: &mut [u8], samples: &[Sample], k: usize) -> Outcome {
         writing = next;
         filed?;
     }
-    match writing.struck().seal(text) {
-        Ok(length) => Ok((length, samples.len())),
-        Err(refused) => Err(told(refused.fault)),
-    }
+    let sealed = writing.struck().seal(text);
+    sealed
+        .map(|length| (length, samples.len()))
+        .map_err(|refused| told(refused.fault))
 }
 
 // Tries rows by a reader, on the text that the rules spell, and by a writer, who has just the room for it. Both tell the

@@ -75,7 +75,7 @@ impl<C: Chain> Lot for Chained<C> {
         total
     }
 
-    // A `for` in each question: the closure of a `map` or `find_map` would have to state again what the question asks.
+    // A `for` here and in `broken_row`: the closure of a `find_map` would have to state again what the question asks.
     fn refused_row(&self, cells: Cells<'_>) -> Option<usize> {
         for part in self.parts(cells) {
             if let Some(refused) = part.lot.refused_row(part.cells) {

@@ -18,6 +18,7 @@ pub enum MarketFault {
 }
 
 impl MarketFault {
+    // `tell`, and not `From`, as in each layer (byte_layer).
     pub fn tell(&self) -> Told
         ensures { result ≡ told_market self.now }
     {

@@ -104,7 +104,7 @@ impl<'a> Prices<'a> {
         self.area(area).iter().all(|price| is_price(*price))
     }
 
-    // None, and no error: which price is not within the cap, nobody takes here.
+    // None, and no error, which nobody would take: it would be no plainer.
     // The same prices, where they are those of the 32 areas, each within the cap.
     pub fn capped(self) -> Option<CappedPrices<'a>>
         ensures when { IsSome result ↔ Priced self.entry.bytes.now }

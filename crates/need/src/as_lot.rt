@@ -72,7 +72,7 @@ fn no_loss_in(cells: &[i32; 4], gains: &[i32; 4]) -> bool
 }
 
 impl Need {
-    // A bid's quarters are of another type: what both do here is a line each, and one over both would take a closure.
+    // A bid's quarters are of another type: what both do here is a line or two each, and one over both would take a closure.
     // The prices by quarter.
     fn limits(&self) -> [i32; 4]
         ensures { result ≡ four (need_trade self.now.fields).limit }

@@ -11,7 +11,7 @@ pub enum FieldFault {
 }
 
 impl FieldFault {
-    // What the fault tells in the row of that number.
+    // What the fault tells in the row of that number; `tell`, and not `From`, as in each layer (byte_layer).
     pub fn tell(self, row: usize) -> Told
         ensures { result ≡ told_field row self }
     {

@@ -1,10 +1,10 @@
 use crate::examples::{block_bid, small_bid, small_need, wide_border};
 use crate::show::told;
-use bid::fields::BidFields;
 use book::check::check;
 use book::fault::BookFault;
 use std::alloc::Global;
 use std::io;
+use writer::fields::Fields;
 use writer::state::{GroupUnderway, Membership, OpenBook, Refused};
 
 // What a check says of a text that it should refuse.
@@ -30,27 +30,24 @@ pub(crate) fn of_members(rt: &impl Print) -> io::Result<()> {
     checked(rt, "a seal where a group's member is due", &[0x45, 2, 0x53])
 }
 
-fn bid_refused(rt: &impl Print, what: &str, fields: BidFields) -> io::Result<()> {
+// What a writer says of fields that it should refuse.
+fn unfiled<F: Fields>(rt: &impl Print, what: &str, fields: F) -> io::Result<()> {
     let mut text = [0u8; 64];
     match OpenBook::start().file(&mut text, fields) {
         Ok(_filed) => println!(rt; "  {what}: filed"),
-        Err(back) => told(rt, what, back.fault),
+        Err(refused) => told(rt, what, refused.fault),
     }
 }
 
 // 23 and 24: the fields of a row.
 pub(crate) fn of_fields(rt: &impl Print) -> io::Result<()> {
-    bid_refused(rt, "a bid in area 32", block_bid(32))?;
+    unfiled(rt, "a bid in area 32", block_bid(32))?;
     let mut fields = small_bid();
     fields.quarters[2].minimum = 501;
-    bid_refused(rt, "a minimum above its maximum", fields)?;
-    let mut text = [0u8; 64];
+    unfiled(rt, "a minimum above its maximum", fields)?;
     let mut border = wide_border();
     border.to = border.from;
-    match OpenBook::start().file(&mut text, border) {
-        Ok(_filed) => println!(rt; "  a border to itself: filed"),
-        Err(back) => told(rt, "a border to itself", back.fault),
-    }
+    unfiled(rt, "a border to itself", border)
 }
 
 // 25: a group whose second member is of another area, and the group struck.

@@ -41,6 +41,7 @@ impl GroupUnderway {
         })
     }
 
+    // A refusal is matched on, since `map_err` would take the group into its closure.
     // Files a bid as the group's next member.
     pub fn member(
         self,
