@@ -17,7 +17,7 @@ use Rattle.book.specs.Fault.{most_rows}
 use Rattle.book.specs.Command.{command_size, command_for, command_at, whole, is_bid, is_seal}
 use Rattle.book.specs.Rows.{rowed, row_read, row_size}
 use Rattle.book.specs.Stands.{due_of, row_of, same_of, fresh, onward, member_on, group_on, closed, after}
-use Rattle.book.specs.Reading.{step_taken, step_row, step_command, step_of, push, ends, stepped, read_rows}
+use Rattle.book.specs.Reading.{stood, step_taken, step_row, step_command, step_of, push, ends, stepped, read_rows}
 
 -- a test that came out one way or the other
 pub cond_case : {X : Type 0} {P : Type 0} (b : Bool) (x y z : X) → cond b x y ≡ z → (b ≡ true → x ≡ z → P) → (b ≡ false → y ≡ z → P) → P
@@ -26,6 +26,9 @@ cond_case false x y z e f g = g refl e
 
 pub no_none : {X E P : Type 0} (x : X) → ◌≡◌ {A = Result (Option X) E} (Ok None) (Ok (Some x)) → P
 no_none x p = let z : ◌≡◌ {A = ℕ} 0 1 = cc in absurd (omega arith)
+
+some_none : {X E P : Type 0} (x : X) → ◌≡◌ {A = Result (Option X) E} (Ok (Some x)) (Ok None) → P
+some_none x p = let z : ◌≡◌ {A = ℕ} 0 1 = cc in absurd (omega arith)
 
 rowed_size : {X : Type 0} (f : X → Row) (x : Result X Told) (n : ℕ) → ((y : X) → row_size (f y) ≡ n) → (r : Row) → rowed f x ≡ Ok (Some r) → row_size r ≡ n
 rowed_size f (Ok y) n h r e = let q : f y ≡ r = cc in sym (ap row_size q) ∙ h y
@@ -53,34 +56,30 @@ pub record Moved (s : Stand) (t : List ℕ) (r : Row) (n : Stand) : Type 0 where
   pub at : n.at ≡ s.at + row_size r
   pub rows : n.rows ≡ s.rows + 1
 
-some_same : (r q : Row) (s n : Stand) → ◌≡◌ {A = Result (Option (Row × Stand)) Told} (Ok (Some (r, s))) (Ok (Some (q, n))) → (r ≡ q) × (s ≡ n)
-some_same r q s n e = let z : ◌≡◌ {A = Row × Stand} (r, s) (q, n) = cc in (ap (λ (p : Row × Stand). p.0) z, ap (λ (p : Row × Stand). p.1) z)
-
--- a row that was taken is the row itself, and the reader has moved by it
-pub record Stepped (s : Stand) (q r : Row) (n : Stand) : Type 0 where
-  pub same : q ≡ r
-  pub at : n.at ≡ s.at + row_size q
+-- the reader has moved by a row
+pub record Stepped (s : Stand) (r : Row) (n : Stand) : Type 0 where
+  pub at : n.at ≡ s.at + row_size r
   pub rows : n.rows ≡ s.rows + 1
 
-stepped_at : (s m : Stand) (q r : Row) (n : Stand) → m.at ≡ s.at + row_size q → m.rows ≡ s.rows + 1 → ◌≡◌ {A = Result (Option (Row × Stand)) Told} (Ok (Some (q, m))) (Ok (Some (r, n))) → Stepped s q r n
-stepped_at s m q r n a b e = let z = some_same q r m n e in record { same = z.0; at = sym (ap (λ (x : Stand). x.at) z.1) ∙ a; rows = sym (ap (λ (x : Stand). x.rows) z.1) ∙ b }
+stepped_at : (s m : Stand) (r : Row) (n : Stand) → m.at ≡ s.at + row_size r → m.rows ≡ s.rows + 1 → ◌≡◌ {A = Result Stand Told} (Ok m) (Ok n) → Stepped s r n
+stepped_at s m r n a b e = let z : m ≡ n = cc in record { at = sym (ap (λ (x : Stand). x.at) z) ∙ a; rows = sym (ap (λ (x : Stand). x.rows) z) ∙ b }
 
-pub after_at : (s : Stand) (q r : Row) (n : Stand) → after s q ≡ Ok (Some (r, n)) → Stepped s q r n
+pub after_at : (s : Stand) (r : Row) (n : Stand) → after s r ≡ Ok n → Stepped s r n
 unfolding after
-after_at s (kind.Bid b) r n e =
+after_at s (kind.Bid b) n e =
     let next = member_on s b.area in
     let last = fresh (s.at + 51) (s.rows + 1) in
     let row = kind.Bid b in
-    cond_case (eqb (due_of s) 0) (Ok (Some (row, onward s row))) (closed row next) (Ok (Some (r, n))) e
-    (λ _ p. stepped_at s (onward s row) row r n refl refl p)
-    (λ _ p. cond_case (eqb (due_of next) 0) (cond (same_of next) (Ok (Some (row, last))) (Err (fault 25 (row_of s)))) (Ok (Some (row, next))) (Ok (Some (r, n))) p
-    (λ _ x. cond_case (same_of next) (Ok (Some (row, last))) (Err (fault 25 (row_of s))) (Ok (Some (r, n))) x
-    (λ _ y. stepped_at s last row r n refl refl y)
-    (λ _ y. no_err (fault 25 (row_of s)) (Some (r, n)) y))
-    (λ _ x. stepped_at s next row r n refl refl x))
-after_at s (kind.Group k) r n e = stepped_at s (group_on s k) (kind.Group k) r n refl refl e
-after_at s (kind.Need k) r n e = stepped_at s (onward s (kind.Need k)) (kind.Need k) r n refl refl e
-after_at s (kind.Border k) r n e = stepped_at s (onward s (kind.Border k)) (kind.Border k) r n refl refl e
+    cond_case (eqb (due_of s) 0) (Ok (onward s row)) (closed next) (Ok n) e
+    (λ _ p. stepped_at s (onward s row) row n refl refl p)
+    (λ _ p. cond_case (eqb (due_of next) 0) (cond (same_of next) (Ok last) (Err (fault 25 (row_of s)))) (Ok next) (Ok n) p
+    (λ _ x. cond_case (same_of next) (Ok last) (Err (fault 25 (row_of s))) (Ok n) x
+    (λ _ y. stepped_at s last row n refl refl y)
+    (λ _ y. no_err (fault 25 (row_of s)) n y))
+    (λ _ x. stepped_at s next row n refl refl x))
+after_at s (kind.Group k) n e = stepped_at s (group_on s k) (kind.Group k) n refl refl e
+after_at s (kind.Need k) n e = stepped_at s (onward s (kind.Need k)) (kind.Need k) n refl refl e
+after_at s (kind.Border k) n e = stepped_at s (onward s (kind.Border k)) (kind.Border k) n refl refl e
 
 -- a step that gives a row, taken apart
 pub record Took (s : Stand) (t : List ℕ) (r : Row) (n : Stand) : Type 0 where
@@ -89,23 +88,42 @@ pub record Took (s : Stand) (t : List ℕ) (r : Row) (n : Stand) : Type 0 where
   pub due : (ltb 0 (due_of s) && not (is_bid command)) ≡ false
   pub few : leb most_rows s.rows ≡ false
   pub row : row_read command s.rows t ≡ Ok (Some r)
-  pub next : after s r ≡ Ok (Some (r, n))
+  pub next : after s r ≡ Ok n
 
-taken_took : (s : Stand) (y : Result (Option Row) Told) (r : Row) (n : Stand) → step_taken s y ≡ Ok (Some (r, n)) → (y ≡ Ok (Some r)) × (after s r ≡ Ok (Some (r, n)))
+stood_is : (q r : Row) (y : Result Stand Told) (n : Stand) → stood q y ≡ Ok (Some (r, n)) → (q ≡ r) × (y ≡ Ok n)
+stood_is q r (Err x) n e = no_err x (Some (r, n)) e
+stood_is q r (Ok m) n e = let z : ◌≡◌ {A = Row × Stand} (q, m) (r, n) = cc in (ap (λ (p : Row × Stand). p.0) z, ap (λ (p : Row × Stand). Ok p.1) z)
+
+stood_some : {P : Type 0} (q : Row) (y : Result Stand Told) → stood q y ≡ Ok None → P
+stood_some q (Err x) e = no_err x None e
+stood_some q (Ok m) e = some_none (q, m) e
+
+taken_took : (s : Stand) (y : Result (Option Row) Told) (r : Row) (n : Stand) → step_taken s y ≡ Ok (Some (r, n)) → (y ≡ Ok (Some r)) × (after s r ≡ Ok n)
 taken_took s (Err x) r n e = no_err x (Some (r, n)) e
 taken_took s (Ok None) r n e = no_none (r, n) e
-taken_took s (Ok (Some q)) r n e = let z = after_at s q r n e in (ap (λ (x : Row). Ok (Some x)) z.same, subst (λ (x : Row). after s x ≡ Ok (Some (r, n))) z.same e)
+taken_took s (Ok (Some q)) r n e = let z = stood_is q r (after s q) n e in (ap (λ (x : Row). Ok (Some x)) z.0, subst (λ (x : Row). after s x ≡ Ok n) z.0 z.1)
+
+pub front_false : (b : Bool) → (b && true) ≡ false → b ≡ false
+front_false true e = e
+front_false false e = refl
+
+-- a command that gives a row is not the seal
+pub row_some : (k : Command) (n : ℕ) (t : List ℕ) (r : Row) → row_read k n t ≡ Ok (Some r) → is_seal k ≡ false
+unfolding row_read
+row_some command.Bid n t r e = refl
+row_some command.Group n t r e = refl
+row_some command.Need n t r e = refl
+row_some command.Border n t r e = refl
+row_some command.Seal n t r e = no_none r e
 
 command_took : (s : Stand) (t : List ℕ) (x : Result Command Told) → command_at s.at t ≡ x → (r : Row) (n : Stand) → step_command s t x ≡ Ok (Some (r, n)) → Took s t r n
 command_took s t (Err x) h r n e = no_err x (Some (r, n)) e
 command_took s t (Ok k) h r n e =
     cond_case (ltb 0 (due_of s) && not (is_bid k)) (Err (fault 21 s.rows)) (step_row s t k) (Ok (Some (r, n))) e
     (λ _ p. no_err (fault 21 s.rows) (Some (r, n)) p)
-    (λ d p. cond_case (is_seal k) (Ok None) (cond (leb most_rows s.rows) (Err (fault 22 most_rows)) (step_taken s (row_read k s.rows t))) (Ok (Some (r, n))) p
-    (λ _ q. no_none (r, n) q)
-    (λ _ q. cond_case (leb most_rows s.rows) (Err (fault 22 most_rows)) (step_taken s (row_read k s.rows t)) (Ok (Some (r, n))) q
+    (λ d p. cond_case (leb most_rows s.rows && not (is_seal k)) (Err (fault 22 most_rows)) (step_taken s (row_read k s.rows t)) (Ok (Some (r, n))) p
     (λ _ u. no_err (fault 22 most_rows) (Some (r, n)) u)
-    (λ f u. let z = taken_took s (row_read k s.rows t) r n u in record { command = k; whole = h; due = d; few = f; row = z.0; next = z.1 })))
+    (λ f u. let z = taken_took s (row_read k s.rows t) r n u in record { command = k; whole = h; due = d; few = front_false (leb most_rows s.rows) (subst (λ b. (leb most_rows s.rows && not b) ≡ false) (row_some k s.rows t r z.0) f); row = z.0; next = z.1 }))
 
 pub step_took : (s : Stand) (t : List ℕ) (r : Row) (n : Stand) → step_of s t ≡ Ok (Some (r, n)) → Took s t r n
 unfolding step_of
@@ -116,45 +134,26 @@ step_moves s t r n e =
     let k = step_took s t r n e in
     let a = command_size_lem s.at t k.command k.whole in
     let b = row_size_lem k.command s.rows t r k.row in
-    let c = after_at s r r n k.next in
+    let c = after_at s r n k.next in
     record { fits = omega arith; at = c.at; rows = c.rows }
-
-some_none : {X E P : Type 0} (x : X) → ◌≡◌ {A = Result (Option X) E} (Ok (Some x)) (Ok None) → P
-some_none x p = let z : ◌≡◌ {A = ℕ} 0 1 = cc in absurd (omega arith)
-
-after_some : {P : Type 0} (s : Stand) (q : Row) → after s q ≡ Ok None → P
-unfolding after
-after_some s (kind.Bid b) e =
-    let next = member_on s b.area in
-    let last = fresh (s.at + 51) (s.rows + 1) in
-    let row = kind.Bid b in
-    cond_case (eqb (due_of s) 0) (Ok (Some (row, onward s row))) (closed row next) (Ok None) e
-    (λ _ p. some_none (row, onward s row) p)
-    (λ _ p. cond_case (eqb (due_of next) 0) (cond (same_of next) (Ok (Some (row, last))) (Err (fault 25 (row_of s)))) (Ok (Some (row, next))) (Ok None) p
-    (λ _ x. cond_case (same_of next) (Ok (Some (row, last))) (Err (fault 25 (row_of s))) (Ok None) x
-    (λ _ y. some_none (row, last) y)
-    (λ _ y. no_err (fault 25 (row_of s)) None y))
-    (λ _ x. some_none (row, next) x))
-after_some s (kind.Group k) e = some_none (kind.Group k, group_on s k) e
-after_some s (kind.Need k) e = some_none (kind.Need k, onward s (kind.Need k)) e
-after_some s (kind.Border k) e = some_none (kind.Border k, onward s (kind.Border k)) e
 
 rowed_some : {X P : Type 0} (f : X → Row) (x : Result X Told) → rowed f x ≡ Ok None → P
 rowed_some f (Ok y) e = some_none (f y) e
 rowed_some f (Err y) e = no_err y None e
 
-row_none : {P : Type 0} (k : Command) (n : ℕ) (t : List ℕ) → is_seal k ≡ false → row_read k n t ≡ Ok None → P
+-- a command that gives no row is the seal
+row_none : (k : Command) (n : ℕ) (t : List ℕ) → row_read k n t ≡ Ok None → is_seal k ≡ true
 unfolding row_read
-row_none command.Bid n t i e = rowed_some kind.Bid (bid_read n (drop 1 t)) e
-row_none command.Group n t i e = let m = get_or t 1 0 in rowed_some kind.Group (judged n true (group_fine m) m) e
-row_none command.Need n t i e = rowed_some kind.Need (need_read n (drop 1 t)) e
-row_none command.Border n t i e = rowed_some kind.Border (border_read n (drop 1 t)) e
-row_none command.Seal n t i e = let z : true ≡ false = i in let w : ◌≡◌ {A = ℕ} 0 1 = cc in absurd (omega arith)
+row_none command.Bid n t e = rowed_some kind.Bid (bid_read n (drop 1 t)) e
+row_none command.Group n t e = let m = get_or t 1 0 in rowed_some kind.Group (judged n true (group_fine m) m) e
+row_none command.Need n t e = rowed_some kind.Need (need_read n (drop 1 t)) e
+row_none command.Border n t e = rowed_some kind.Border (border_read n (drop 1 t)) e
+row_none command.Seal n t e = refl
 
-taken_none : {P : Type 0} (s : Stand) (k : Command) (t : List ℕ) (y : Result (Option Row) Told) → is_seal k ≡ false → row_read k s.rows t ≡ y → step_taken s y ≡ Ok None → P
-taken_none s k t (Err x) i h e = no_err x None e
-taken_none s k t (Ok None) i h e = row_none k s.rows t i h
-taken_none s k t (Ok (Some q)) i h e = after_some s q e
+taken_none : (s : Stand) (y : Result (Option Row) Told) → step_taken s y ≡ Ok None → y ≡ Ok None
+taken_none s (Err x) e = no_err x None e
+taken_none s (Ok None) e = refl
+taken_none s (Ok (Some q)) e = stood_some q (after s q) e
 
 -- a step at the seal: the command is the seal, and no member is due
 pub record Ended (s : Stand) (t : List ℕ) : Type 0 where
@@ -168,11 +167,9 @@ command_ended s t (Err x) h e = no_err x None e
 command_ended s t (Ok k) h e =
     cond_case (ltb 0 (due_of s) && not (is_bid k)) (Err (fault 21 s.rows)) (step_row s t k) (Ok None) e
     (λ _ p. no_err (fault 21 s.rows) None p)
-    (λ d p. cond_case (is_seal k) (Ok None) (cond (leb most_rows s.rows) (Err (fault 22 most_rows)) (step_taken s (row_read k s.rows t))) (Ok None) p
-    (λ i _. record { command = k; whole = h; due = d; seal = i })
-    (λ i q. cond_case (leb most_rows s.rows) (Err (fault 22 most_rows)) (step_taken s (row_read k s.rows t)) (Ok None) q
+    (λ d p. cond_case (leb most_rows s.rows && not (is_seal k)) (Err (fault 22 most_rows)) (step_taken s (row_read k s.rows t)) (Ok None) p
     (λ _ u. no_err (fault 22 most_rows) None u)
-    (λ _ u. taken_none s k t (row_read k s.rows t) i refl u)))
+    (λ _ u. record { command = k; whole = h; due = d; seal = row_none k s.rows t (taken_none s (row_read k s.rows t) u) }))
 
 pub step_ended : (s : Stand) (t : List ℕ) → step_of s t ≡ Ok None → Ended s t
 unfolding step_of

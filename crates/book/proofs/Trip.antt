@@ -31,9 +31,9 @@ use Rattle.book.specs.Fault.{most_rows, told_book}
 use Rattle.book.specs.Command.{command_byte, command_size, command_for, whole, command_at, is_bid, is_seal}
 use Rattle.book.specs.Rows.{command_of, row_size, operands, row_bytes, encode, rowed, row_read, row_judged, Four}
 use Rattle.book.specs.Stands.{due_of, begin}
-use Rattle.book.specs.Reading.{step_of, push, stepped, read_rows, decoded, ends, checked, rows_of, rows_in}
+use Rattle.book.specs.Reading.{stood, step_of, push, stepped, read_rows, decoded, ends, checked, rows_of, rows_in}
 use Rattle.book.specs.Writing.{Files, Runs, none, more, Begins, Written}
-use Rattle.book.proofs.Steps.{cond_case, no_none, command_size_lem, row_has, after_at, step_took, step_moves, step_ended, reads_on_lem, reads_seal, reads_count, push_ok}
+use Rattle.book.proofs.Steps.{cond_case, front_false, no_none, command_size_lem, row_has, after_at, step_took, step_moves, step_ended, reads_on_lem, reads_seal, reads_count, push_ok}
 
 -- fields that were taken as a row
 rowed_in : {X : Type 0} (f : X → Row) (x : Result X Told) (y : X) → ((a b : X) → f a ≡ f b → a ≡ b) → rowed f x ≡ Ok (Some (f y)) → x ≡ Ok y
@@ -72,19 +72,17 @@ command_back (kind.Group n) a t = rw (long (kind.Group n) t)
 command_back (kind.Need f) a t = rw (long (kind.Need f) t)
 command_back (kind.Border f) a t = rw (long (kind.Border f) t)
 
-no_seal : (r : Row) → is_seal (command_of r) ≡ false
-no_seal (kind.Bid f) = refl
-no_seal (kind.Group n) = refl
-no_seal (kind.Need f) = refl
-no_seal (kind.Border f) = refl
-
 step_back : (s n : Stand) (r : Row) (t : List ℕ) → Files s r n → step_of s (row_bytes r ++ t) ≡ Ok (Some (r, n))
 unfolding step_of
-step_back s n r t f = rw (command_back r s.at t, f.due, no_seal r, lt-leb most_rows s.rows f.few, row_back s.rows r t f.four f.fine) f.next
+step_back s n r t f = rw (command_back r s.at t, f.due, lt-leb most_rows s.rows f.few, row_back s.rows r t f.four f.fine) (ap (stood r) f.next)
 
 seal_back : (s : Stand) (t : List ℕ) → due_of s ≡ 0 → step_of s (0x53 ∷ t) ≡ Ok None
-unfolding step_of
-seal_back s t e = rw (le-leb 1 (length (0x53 ∷ t)) (omega arith), le-ltb 0 (due_of s) (omega arith))
+unfolding step_of row_read
+seal_back s t e = rw (le-leb 1 (length (0x53 ∷ t)) (omega arith), le-ltb 0 (due_of s) (omega arith), no_fault (leb most_rows s.rows)) refl
+  where
+    no_fault : (b : Bool) → (b && false) ≡ false
+    no_fault true = refl
+    no_fault false = refl
 
 -- rows that were encoded and sealed are read again, whatever follows
 pub trip : {s n : Stand} {rs : List Row} → Runs s rs n → due_of n ≡ 0 → (t : List ℕ) (f : ℕ) → length (encode rs ++ (0x53 ∷ t)) ≤ f → read_rows f s (encode rs ++ (0x53 ∷ t)) ≡ Ok (rs, n)
@@ -112,7 +110,7 @@ begins_none t = record { runs = none; bytes = refl; within = omega arith }
 -- one row more in the text
 pub begins_more : (t u : List ℕ) (s n : Stand) (rs : List Row) (r : Row) → Begins t s rs → Files s r n → s.at + row_size r ≤ length t → u ≡ placed t s.at (row_bytes r) → Begins u n (rs ++ r ∷ [])
 begins_more t u s n rs r w f h e =
-    let p = after_at s r r n f.next in
+    let p = after_at s r n f.next in
     let a = take s.at t in
     let la : length a ≡ s.at = length-take-le s.at t w.within in
     let rest = drop (s.at + length (row_bytes r)) t in
@@ -240,11 +238,7 @@ seal_is command.Border e = let w : ◌≡◌ {A = ℕ} 0 1 = cc in absurd (omega
 seal_is command.Seal e = refl
 
 not_due : (n : ℕ) → (ltb 0 n && true) ≡ false → n ≡ 0
-not_due n e = let h = ltb-false 0 n (front (ltb 0 n) e) in omega arith
-  where
-    front : (b : Bool) → (b && true) ≡ false → b ≡ false
-    front true e = e
-    front false e = refl
+not_due n e = let h = ltb-false 0 n (front_false (ltb 0 n) e) in omega arith
 
 ended_reads : (s : Stand) (t : List ℕ) → step_of s t ≡ Ok None → Reads s t [] s
 ended_reads s t e =

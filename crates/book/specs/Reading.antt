@@ -1,5 +1,6 @@
 -- Reading a text command by command, and its check.
 use Rattle.std.specs.Prelude.{ℕ, zero, suc, ◌+◌, cond, not, ◌&&◌, List, [], ◌∷◌, length, drop, Some, None, Ok, Err, Option, Result, nat_le, nat_lt}
+use Rattle.std.specs.Result.{result_map_both}
 use Rattle.byte_layer.specs.declared.fault.Told.{Told}
 use Rattle.byte_layer.specs.Fault.{fault}
 use Rattle.book.specs.declared.check.Checked.{Checked}
@@ -11,16 +12,20 @@ use Rattle.book.specs.Command.{command_at, is_bid, is_seal}
 use Rattle.book.specs.Rows.{row_size, row_read}
 use Rattle.book.specs.Stands.{begin, after, due_of}
 
+-- a row with the stand after it
+abbrev pub stood : Row → Result Stand Told → Result (Option (Row × Stand)) Told
+stood r x = result_map_both (λ n. Some (r, n)) (λ e. e) x
+
 -- one command, tried in this order: 12, 11 (`command_at`); 21, where a member is due and it is no bid; 22, where
--- the book has all its rows; 23, 24 (`row_read`); 25 (`after`). It gives the row and where the reader stands then,
+-- the book has all its rows and it is not the seal; 23, 24 (`row_read`); 25 (`after`). It gives the row and where the reader stands then,
 -- or nothing at the seal.
 abbrev pub step_taken : Stand → Result (Option Row) Told → Result (Option (Row × Stand)) Told
 step_taken s (Err e) = Err e
 step_taken s (Ok None) = Ok None
-step_taken s (Ok (Some r)) = after s r
+step_taken s (Ok (Some r)) = stood r (after s r)
 
 abbrev pub step_row : Stand → List ℕ → Command → Result (Option (Row × Stand)) Told
-step_row s t k = cond (is_seal k) (Ok None) (cond (nat_le most_rows s.rows) (Err (fault 22 most_rows)) (step_taken s (row_read k s.rows t)))
+step_row s t k = cond (nat_le most_rows s.rows && not (is_seal k)) (Err (fault 22 most_rows)) (step_taken s (row_read k s.rows t))
 
 abbrev pub step_command : Stand → List ℕ → Result Command Told → Result (Option (Row × Stand)) Told
 step_command s t (Err e) = Err e

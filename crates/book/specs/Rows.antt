@@ -1,5 +1,5 @@
 -- The rows of a book: their commands' bytes, and the rules of their fields.
-use Rattle.std.specs.Prelude.{◌≡◌, ℕ, List, [], ◌∷◌, ◌++◌, length, drop, Some, None, Ok, Err, Option, Result, slice_index}
+use Rattle.std.specs.Prelude.{◌≡◌, ℕ, List, [], ◌∷◌, length, drop, flat_map, Some, None, Ok, Err, Option, Result, slice_index}
 use Rattle.byte_layer.specs.declared.fault.Told.{Told}
 use Rattle.bid.specs.Fields.{bid_judged}
 use Rattle.bid.specs.Format.{bid_bytes, bid_read}
@@ -39,8 +39,7 @@ row_bytes r = command_byte (command_of r) ∷ operands r
 
 -- the bytes of rows, one behind the other
 abbrev pub encode : List Row → List ℕ
-encode [] = []
-encode (r ∷ rs) = row_bytes r ++ encode rs
+encode rs = flat_map row_bytes rs
 
 -- fields as a row of their kind
 abbrev pub rowed : {X : Type 0} → (X → Row) → Result X Told → Result (Option Row) Told

@@ -68,12 +68,12 @@ abbrev pub group_on : Stand → ℕ → Stand
 group_on s n = record { at = s.at + 2; rows = s.rows + 1; group = Some (record { due = n; row = s.rows; areas = Unknown }) }
 
 -- the last member closes the group, whose members are to be of one area (25)
-abbrev pub closed : Row → Stand → Result (Option (Row × Stand)) Told
-closed r s = cond (due_of s == 0) (cond (same_of s) (Ok (Some (r, fresh s.at s.rows))) (Err (fault 25 (row_of s)))) (Ok (Some (r, s)))
+abbrev pub closed : Stand → Result Stand Told
+closed s = cond (due_of s == 0) (cond (same_of s) (Ok (fresh s.at s.rows)) (Err (fault 25 (row_of s)))) (Ok s)
 
--- a row, and where the reader stands after it
-unfoldable pub after : Stand → Row → Result (Option (Row × Stand)) Told
-after s (kind.Bid f) = cond (due_of s == 0) (Ok (Some (kind.Bid f, onward s (kind.Bid f)))) (closed (kind.Bid f) (member_on s f.area))
-after s (kind.Group n) = Ok (Some (kind.Group n, group_on s n))
-after s (kind.Need f) = Ok (Some (kind.Need f, onward s (kind.Need f)))
-after s (kind.Border f) = Ok (Some (kind.Border f, onward s (kind.Border f)))
+-- where the reader stands after a row
+unfoldable pub after : Stand → Row → Result Stand Told
+after s (kind.Bid f) = cond (due_of s == 0) (Ok (onward s (kind.Bid f))) (closed (member_on s f.area))
+after s (kind.Group n) = Ok (group_on s n)
+after s (kind.Need f) = Ok (onward s (kind.Need f))
+after s (kind.Border f) = Ok (onward s (kind.Border f))

@@ -14,7 +14,7 @@ pub record Files (s : Stand) (r : Row) (n : Stand) : Type 0 where
   pub due : (nat_lt 0 (due_of s) && not (is_bid (command_of r))) ≡ false
   pub fine : row_judged s.rows r ≡ Ok (Some r)
   pub four : Four r
-  pub next : after s r ≡ Ok (Some (r, n))
+  pub next : after s r ≡ Ok n
 
 -- the rows may stand one after another, and lead from s to n
 pub data Runs : Stand → List Row → Stand → Type 0 where

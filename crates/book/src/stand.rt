@@ -109,31 +109,30 @@ impl Stand {
         }
     }
 
-    // A row and a stand as a step of the reader gives them, which has neither at the seal.
+    // After a member: the last one closes the group, whose members are to be of one area.
+    fn closed(self) -> Result<Stand, BookFault>
+        ensures { heard told_book result ≡ closed self }
+    {
+        match self.group {
+            Some(group) if group.due > 0 => Ok(self),
+            Some(group) if group.areas == Areas::Mixed => Err(BookFault::Mixed(group.row)),
+            _ => Ok(Stand::fresh(self.at, self.rows)),
+        }
+    }
+
     // Where a reader stands after a row.
     #[tactic(auto, unfolding(crate::specs::Stands::after))]
-    pub fn after(self, row: Row) -> Result<Option<(Row, Stand)>, BookFault>
-        requires { (self.at + row_size row < 2 ^ 64) × (self.rows < 1024) }
-        ensures { heard told_book result ≡ after self row }
+    pub fn after(self, row: &Row) -> Result<Stand, BookFault>
+        requires { (self.at + row_size row.now < 2 ^ 64) × (self.rows < 1024) }
+        ensures { heard told_book result ≡ after self row.now }
     {
         match row {
             Row::Bid(bid) => match self.group {
-                Some(group) if group.due > 0 => closed_by(row, self.member_on(group, bid.area)),
-                _ => Ok(Some((row, self.onward(&row)))),
+                Some(group) if group.due > 0 => self.member_on(group, bid.area).closed(),
+                _ => Ok(self.onward(row)),
             },
-            Row::Group(members) => Ok(Some((row, self.group_on(members)))),
-            Row::Need(_) | Row::Border(_) => Ok(Some((row, self.onward(&row)))),
+            Row::Group(members) => Ok(self.group_on(*members)),
+            Row::Need(_) | Row::Border(_) => Ok(self.onward(row)),
         }
-    }
-}
-
-// A member's row: the last one closes the group, whose members are to be of one area.
-fn closed_by(row: Row, next: Stand) -> Result<Option<(Row, Stand)>, BookFault>
-    ensures { heard told_book result ≡ closed row next }
-{
-    match next.group {
-        Some(group) if group.due > 0 => Ok(Some((row, next))),
-        Some(group) if group.areas == Areas::Mixed => Err(BookFault::Mixed(group.row)),
-        _ => Ok(Some((row, Stand::fresh(next.at, next.rows)))),
     }
 }

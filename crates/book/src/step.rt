@@ -18,14 +18,12 @@ pub fn step(text: &[u8], s: Stand) -> Result<Option<(Row, Stand)>, BookFault>
     if s.due() > 0 && !command.is_bid() {
         return Err(BookFault::Member(s.rows));
     }
-    if command.is_seal() {
-        return Ok(None);
-    }
-    if s.rows >= MOST_ROWS {
+    if s.rows >= MOST_ROWS && !command.is_seal() {
         return Err(BookFault::Full);
     }
-    match command.row(text, s.rows)? {
-        Some(row) => s.after(row),
-        None => Ok(None),
-    }
+    let Some(row) = command.row(text, s.rows)? else {
+        return Ok(None);
+    };
+    let next = s.after(&row)?;
+    Ok(Some((row, next)))
 }

@@ -5,6 +5,7 @@ use Rattle.units.proofs.Judged.{no_err}
 use Rattle.book.specs.declared.check.Checked.{Checked}
 use Rattle.book.specs.declared.row.Row.{Row}
 use Rattle.book.specs.declared.stand.Stand.{Stand}
+use Rattle.book.specs.Rows.{row_read}
 use Rattle.book.specs.Stands.{begin}
 use Rattle.book.specs.Reading.{step_of, ends, read_rows, decoded, checked, rows_of, rows_in}
 use Rattle.book.proofs.Steps.{reads_count}
@@ -21,7 +22,7 @@ kept_rows t k e = kept (read_rows (length t) begin t) refl e
 
 -- a seal alone is the book of no rows
 pub seal_checks : checked (0x53 ∷ []) ≡ Ok (record { length = 1; rows = 0 })
-unfolding checked decoded read_rows step_of
+unfolding checked decoded read_rows step_of row_read
 seal_checks = refl
 
 same : (a b c d : ℕ) → a ≡ b → c ≡ d → ◌≡◌ {A = Checked} (record { length = a; rows = c }) (record { length = b; rows = d })

@@ -1,14 +1,13 @@
 -- A book's first order, and the orders after it.
-use Rattle.std.proofs.Common.{Bool, true, ◌&&◌, Err, ◌≡◌, ℕ, ◌<◌, false, eqb, List, [], ◌∷◌, ◌++◌, map, length, take, drop, Some, Ok, Option, Result, sym, refl, ap, ◌∙◌, subst, ap₂, arith, length-append}
+use Rattle.std.proofs.Common.{Bool, true, ◌&&◌, Err, ◌≡◌, ℕ, ◌<◌, false, eqb, List, [], ◌∷◌, ◌++◌, map, length, take, drop, Ok, Result, sym, refl, ap, ◌∙◌, subst, ap₂, arith, length-append}
 use Rattle.std.proofs.lemmas.Bool.{eq-eqb, both_ways}
 use Rattle.std.specs.Result.{result_map_both}
-use Rattle.byte_layer.specs.declared.fault.Told.{Told}
 use Rattle.byte_layer.specs.Fault.{heard}
 use Rattle.units.specs.declared.field.FieldFault.{FieldFault}
 use Rattle.units.specs.Field.{told_field, judged}
 use Rattle.units.proofs.Judged.{judged_ok, no_err}
 use Rattle.order.specs.declared.order.Order.{Order}
-use Rattle.sealed.proofs.Turns.{refused_lawful}
+use Rattle.sealed.proofs.Turns.{refused_lawful, same_stand}
 use Rattle.lot.specs.Join.{join, together, Parted}
 use Rattle.lot.specs.Single.{exclusive}
 use Rattle.bid.specs.declared.fields.BidFields.{BidFields}
@@ -26,25 +25,22 @@ use Rattle.sealed.specs.Lot.{Filed, bid, need, border, bids_among, filed, filed_
 use Rattle.sealed.specs.Members.{bid_rows, Begun}
 
 -- ---- where a reader stands
-same_stand : (r : Row) (a b : Stand) → ◌≡◌ {A = Result (Option (Row × Stand)) Told} (Ok (Some (r, a))) (Ok (Some (r, b))) → a ≡ b
-same_stand r a b e = let z : ◌≡◌ {A = Row × Stand} (r, a) (r, b) = cc in ap (λ (p : Row × Stand). p.1) z
-
 -- after a row by itself no member is due
-pub stays_whole : (s : Stand) (r : Row) (n : Stand) → after s r ≡ Ok (Some (r, n)) → (due_of s) ≡ 0 → is_group r ≡ false → due_of n ≡ 0
+pub stays_whole : (s : Stand) (r : Row) (n : Stand) → after s r ≡ Ok n → (due_of s) ≡ 0 → is_group r ≡ false → due_of n ≡ 0
 unfolding after
 stays_whole s (kind.Bid f) n e d g =
-    cond_case (eqb (due_of s) 0) (Ok (Some (kind.Bid f, onward s (kind.Bid f)))) (closed (kind.Bid f) (member_on s f.area)) (Ok (Some (kind.Bid f, n))) e
-    (λ _ p. sym (ap due_of (same_stand (kind.Bid f) (onward s (kind.Bid f)) n p)))
+    cond_case (eqb (due_of s) 0) (Ok (onward s (kind.Bid f))) (closed (member_on s f.area)) (Ok n) e
+    (λ _ p. sym (ap due_of (same_stand (onward s (kind.Bid f)) n p)))
     (λ z _. absurd (both_ways (eqb (due_of s) 0) z (eq-eqb (due_of s) 0 d)))
 stays_whole s (kind.Group k) n e d g = let z : ◌≡◌ {A = ℕ} 0 1 = cc in absurd (omega arith)
-stays_whole s (kind.Need f) n e d g = sym (ap due_of (same_stand (kind.Need f) (onward s (kind.Need f)) n e))
-stays_whole s (kind.Border f) n e d g = sym (ap due_of (same_stand (kind.Border f) (onward s (kind.Border f)) n e))
+stays_whole s (kind.Need f) n e d g = sym (ap due_of (same_stand (onward s (kind.Need f)) n e))
+stays_whole s (kind.Border f) n e d g = sym (ap due_of (same_stand (onward s (kind.Border f)) n e))
 
 -- after a group's row its members are due
-pub begins_group : (s : Stand) (k : ℕ) (n : Stand) → after s (kind.Group k) ≡ Ok (Some (kind.Group k, n)) → Begun n k
+pub begins_group : (s : Stand) (k : ℕ) (n : Stand) → after s (kind.Group k) ≡ Ok n → Begun n k
 unfolding after
 begins_group s k n e =
-    let q = same_stand (kind.Group k) (group_on s k) n e in
+    let q = same_stand (group_on s k) n e in
     subst (λ (m : Stand). Begun m k) q (record { due = refl; areas = refl })
 
 -- ---- meanings

@@ -150,7 +150,7 @@ written_lawful t n rs w = runs_lawful w.begins.runs
 
 -- a seal alone has no rows
 pub seal_lawful : lawful_rows (rows_in (0x53 ∷ [])) ≡ true
-unfolding rows_in decoded read_rows step_of lawful_rows
+unfolding rows_in decoded read_rows step_of row_read lawful_rows
 seal_lawful = refl
 
 -- a book that passed its check is read with no fault
@@ -179,25 +179,21 @@ command_of_lem command.Seal n t r e = no_none r e
 pub no_member : {P : Type 0} → false ≡ true → P
 no_member e = let z : ◌≡◌ {A = ℕ} 0 1 = cc in absurd (omega arith)
 
-pub member_on_lem : (s : Stand) (f : BidFields) (n : Stand) → after s (kind.Bid f) ≡ Ok (Some (kind.Bid f, n)) → 0 < (due_of s) → MemberOn s f.area n
+pub same_stand : (a b : Stand) → ◌≡◌ {A = Result Stand Told} (Ok a) (Ok b) → a ≡ b
+same_stand a b e = cc
+
+pub member_on_lem : (s : Stand) (f : BidFields) (n : Stand) → after s (kind.Bid f) ≡ Ok n → 0 < (due_of s) → MemberOn s f.area n
 unfolding after
 member_on_lem s f n e d =
     let next = member_on s f.area in
     let last = fresh (s.at + 51) (s.rows + 1) in
-    let row = kind.Bid f in
-    cond_case (eqb (due_of s) 0) (Ok (Some (row, onward_stand))) (closed row next) (Ok (Some (row, n))) e
+    cond_case (eqb (due_of s) 0) (Ok (onward s (kind.Bid f))) (closed next) (Ok n) e
     (λ z _. absurd (omega (arith, eqb-true (due_of s) 0 z)))
-    (λ _ p. cond_case (eqb (due_of next) 0) (cond (same_of next) (Ok (Some (row, last))) (Err (fault 25 (row_of s)))) (Ok (Some (row, next))) (Ok (Some (row, n))) p
-    (λ z x. cond_case (same_of next) (Ok (Some (row, last))) (Err (fault 25 (row_of s))) (Ok (Some (row, n))) x
-    (λ w y. let q : last ≡ n = same_stand row last n y in let u = ap due_of q in let v = eqb-true ((due_of s) - 1) 0 z in record { due = omega arith; on = λ h. absurd (omega arith); closes = λ _. w })
-    (λ _ y. no_err (fault 25 (row_of s)) (Some (row, n)) y))
-    (λ z x. let q : next ≡ n = same_stand row next n x in let u = ap due_of q in record { due = omega arith; on = λ _. sym q; closes = λ h. absurd (both_ways (eqb ((due_of s) - 1) 0) z (eq-eqb ((due_of s) - 1) 0 (u ∙ h))) }))
-  where
-    onward_stand : Stand
-    onward_stand = onward s (kind.Bid f)
-
-    same_stand : (r : Row) (a b : Stand) → ◌≡◌ {A = Result (Option (Row × Stand)) Told} (Ok (Some (r, a))) (Ok (Some (r, b))) → a ≡ b
-    same_stand r a b e = let z : ◌≡◌ {A = Row × Stand} (r, a) (r, b) = cc in ap (λ (p : Row × Stand). p.1) z
+    (λ _ p. cond_case (eqb (due_of next) 0) (cond (same_of next) (Ok last) (Err (fault 25 (row_of s)))) (Ok next) (Ok n) p
+    (λ z x. cond_case (same_of next) (Ok last) (Err (fault 25 (row_of s))) (Ok n) x
+    (λ w y. let q : last ≡ n = same_stand last n y in let u = ap due_of q in let v = eqb-true ((due_of s) - 1) 0 z in record { due = omega arith; on = λ h. absurd (omega arith); closes = λ _. w })
+    (λ _ y. no_err (fault 25 (row_of s)) n y))
+    (λ z x. let q : next ≡ n = same_stand next n x in let u = ap due_of q in record { due = omega arith; on = λ _. sym q; closes = λ h. absurd (both_ways (eqb ((due_of s) - 1) 0) z (eq-eqb ((due_of s) - 1) 0 (u ∙ h))) }))
 
 -- fields that keep their rules are taken
 pub refused_lawful : {P X : Type 0} (e : Told) (areas others : Bool) (x : X) → Err e ≡ judged 0 areas others x → (areas && others) ≡ true → P

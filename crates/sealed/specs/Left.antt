@@ -1,5 +1,5 @@
 -- The rows that a reader of a sealed book has left.
-use Rattle.std.specs.Prelude.{◌≡◌, false, not, ◌&&◌, List, ◌∷◌, Some, Ok, nat_lt}
+use Rattle.std.specs.Prelude.{◌≡◌, false, not, ◌&&◌, List, ◌∷◌, Ok, nat_lt}
 use Rattle.book.specs.declared.row.Row.{Row}
 use Rattle.book.specs.Command.{is_bid}
 use Rattle.book.specs.Rows.{command_of}
@@ -13,5 +13,5 @@ rows_left x = ahead x.stand x.rest.now
 -- r is the first of the rows that x has left, and y has those after it; while a member is due it is a bid
 pub record NextRow (x : Rows) (r : Row) (y : Rows) : Type 0 where
   pub ahead : rows_left x ≡ r ∷ rows_left y
-  pub after : after x.stand r ≡ Ok (Some (r, y.stand))
+  pub after : after x.stand r ≡ Ok y.stand
   pub due : (nat_lt 0 (due_of x.stand) && not (is_bid (command_of r))) ≡ false

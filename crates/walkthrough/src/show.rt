@@ -36,6 +36,19 @@ pub(crate) fn told(rt: &impl Print, what: &str, fault: BookFault) -> io::Result<
     println!(rt; "  {what}: {fault}")
 }
 
+// Shows each quarter by its number, from the first to the last.
+fn quarters<Q: Copy, Show: Fn(usize, Q) -> io::Result<()>>(
+    quarters: &[Q; 4],
+    show: Show,
+) -> io::Result<()>
+    requires { Show.IsAlwaysCallable show }
+{
+    for (number, q) in quarters.iter().enumerate() {
+        show(number, *q)?;
+    }
+    Ok(())
+}
+
 fn bid_quarter(rt: &impl Print, number: usize, q: BidQuarter) -> io::Result<()> {
     if q.maximum == 0 {
         return Ok(());
@@ -82,10 +95,7 @@ fn bid(rt: &impl Print, number: usize, fields: &BidFields) -> io::Result<()> {
         "    row {number}: {} bid in area {}",
         fields.side, fields.area
     )?;
-    for (k, q) in fields.quarters.iter().enumerate() {
-        bid_quarter(rt, k, *q)?;
-    }
-    Ok(())
+    quarters(&fields.quarters, |k, q| bid_quarter(rt, k, q))
 }
 
 fn need(rt: &impl Print, number: usize, fields: &NeedFields) -> io::Result<()> {
@@ -93,10 +103,10 @@ fn need(rt: &impl Print, number: usize, fields: &NeedFields) -> io::Result<()> {
         "    row {number}: {} {} need in area {}",
         fields.elasticity, fields.side, fields.area
     )?;
-    for (k, q) in fields.quarters.iter().enumerate() {
-        need_quarter(rt, k, fields.elasticity, *q)?;
-    }
-    Ok(())
+    quarters(
+        &fields.quarters,
+        |k, q| need_quarter(rt, k, fields.elasticity, q),
+    )
 }
 
 fn border(rt: &impl Print, number: usize, fields: &BorderFields) -> io::Result<()> {
@@ -104,10 +114,7 @@ fn border(rt: &impl Print, number: usize, fields: &BorderFields) -> io::Result<(
         "    row {number}: border from area {} to area {}, flow constant over {} quarters",
         fields.from, fields.to, fields.step
     )?;
-    for (k, q) in fields.quarters.iter().enumerate() {
-        border_quarter(rt, k, *q)?;
-    }
-    Ok(())
+    quarters(&fields.quarters, |k, q| border_quarter(rt, k, q))
 }
 
 pub(crate) fn row(rt: &impl Print, number: usize, row: Row) -> io::Result<()> {

@@ -1,5 +1,5 @@
 -- What a writer's calls make of a text that holds rows.
-use Rattle.std.proofs.Common.{◌≡◌, ℕ, ◌+◌, ◌-◌, ◌<◌, ◌≤◌, Bool, true, false, cond, ◌&&◌, ltb, leb, List, [], ◌∷◌, ◌++◌, length, IfOk, Some, None, Ok, Err, Option, Result, unwrap_or, sym, refl, subst, ⊎_elim, append_assoc, arith, eq-eqb, ne_eqb, leb-false, leb-true, MatchResult}
+use Rattle.std.proofs.Common.{◌≡◌, ℕ, ◌+◌, ◌-◌, ◌<◌, ◌≤◌, Bool, true, false, cond, ◌&&◌, ltb, leb, List, [], ◌∷◌, ◌++◌, length, IfOk, Some, None, Ok, Err, Option, Result, unwrap_or, sym, refl, subst, ⊎_elim, append_assoc, arith, eq-eqb, ne_eqb, leb-false, leb-true, MatchResult, ap₂}
 use Rattle.std.proofs.lemmas.Bool.{and_parts}
 use Rattle.std.proofs.lemmas.Bool.Decides.{leb_tells}
 use Rattle.byte_layer.specs.Fault.{fault}
@@ -30,7 +30,7 @@ pub cases_made : {X Y : Type 0} (r : Result X Y) (P R : X → Type 0) (Q : Y →
 cases_made (Ok x) P R Q p f = f x p
 cases_made (Err y) P R Q p f = tt
 
-after_open : (a n : ℕ) (r : Row) → Single r → after (fresh a n) r ≡ Ok (Some (r, onward (fresh a n) r))
+after_open : (a n : ℕ) (r : Row) → Single r → after (fresh a n) r ≡ Ok (onward (fresh a n) r)
 unfolding after
 after_open a n (kind.Bid b) h = refl
 after_open a n (kind.Group k) h = absurd h
@@ -51,6 +51,10 @@ rowed_fine row n false o e = no_err (fault 24 row) o e
 group_due : (row n : ℕ) → row_judged row (kind.Group n) ≡ Ok (Some (kind.Group n)) → 0 < n
 group_due row n e = let h = leb-true 2 n (and_parts (leb 2 n) (leb n 8) (rowed_fine row n (group_fine n) (Some (kind.Group n)) e)).0 in omega arith
 
+-- a group's row that was filed, as the group that it begins
+pub begun_from : (b : OpenBook) (t u : List ℕ) (n : ℕ) (p : Filed OpenBook) → RowFiled b t (kind.Group n) p u → GroupBegun b t n (record { next = record { length = p.next.length; rows = p.next.rows; due = n; group = p.row; before = b.length; first = None }; row = p.row }) u
+begun_from b t u n p f = record { passed = f.passed; next = ap₂ (λ (m : OpenBook) (k : ℕ). record { length = m.length; rows = m.rows; due = n; group = k; before = b.length; first = None }) f.next f.row; row = f.row; text = f.text }
+
 pub begun_owes : (b : OpenBook) (t u : List ℕ) (n : ℕ) (p : Filed GroupUnderway) → GroupBegun b t n p u → (rs : List Row) → Holds t b rs → Owes u p.next rs (kind.Group n ∷ [])
 unfolding after
 begun_owes b t u n p f rs w =
@@ -70,7 +74,7 @@ area_kept : (first : Option ℕ) (area : ℕ) → same_area first area ≡ true 
 area_kept None area e = refl
 area_kept (Some b) area e = rw e refl
 
-after_member : (g : GroupUnderway) (f : BidFields) → 0 < g.due → same_area g.first f.area ≡ true → after (underway g) (kind.Bid f) ≡ Ok (Some (kind.Bid f, joined_to (member_next g f.area)))
+after_member : (g : GroupUnderway) (f : BidFields) → 0 < g.due → same_area g.first f.area ≡ true → after (underway g) (kind.Bid f) ≡ Ok (joined_to (member_next g f.area))
 unfolding after
 after_member g f h e =
     let k = area_kept g.first f.area e in

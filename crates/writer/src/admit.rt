@@ -1,4 +1,4 @@
-ghost use Rattle.std.specs.Prelude.{◌≡◌, Some};
+ghost use Rattle.std.specs.Prelude.{◌≡◌, length, Some};
 ghost use Rattle.byte_layer.specs.Fault.{heard};
 ghost use Rattle.book.specs.Fault.{told_book};
 ghost use Rattle.writer.specs.Lawful.{row_in};
@@ -18,6 +18,16 @@ pub struct Desk {
 }
 
 impl Desk {
+    pub fn of(text: &[u8], at: usize, rows: usize) -> Desk
+        ensures { result ≡ record { len = length text.now; at = at; rows = rows } }
+    {
+        Desk {
+            len: text.len(),
+            at,
+            rows,
+        }
+    }
+
     // Has the text room for `size` bytes more?
     pub fn room(self, size: usize) -> Result<(), BookFault>
         ensures { heard told_book result ≡ roomed self.len self.at self.rows size }

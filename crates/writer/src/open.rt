@@ -1,19 +1,14 @@
 ghost use Rattle.std.specs.Prelude.{◌≡◌, ℕ, ◌+◌, List, [], ◌∷◌, ◌++◌, length, IfOk, Ok, MatchResult};
-ghost use Rattle.byte_layer.specs.Fault.{heard};
 ghost use Rattle.book.specs.declared.row.Row.TheVariants as kind;
-ghost use Rattle.book.specs.Fault.{told_book};
 ghost use Rattle.book.specs.Reading.{checked, rows_in};
 ghost use Rattle.writer.specs.Admit.{admitted, roomed};
-ghost use Rattle.writer.specs.Lawful.{row_in};
 ghost use Rattle.writer.specs.Calls.{RowFiled, GroupBegun, BookSealed, Unchanged};
 ghost use Rattle.writer.specs.Holding.{Holds, Owes};
 
 use crate::admit::Desk;
 use crate::fields::Fields;
-use crate::lawful::LawfulRow;
 use crate::state::{Filed, GroupUnderway, OpenBook, Refused};
 use book::command::SEAL;
-use book::fault::BookFault;
 use book::row::Row;
 use byte_layer::number::write_bytes;
 
@@ -26,23 +21,12 @@ impl OpenBook {
         OpenBook { length: 0, rows: 0 }
     }
 
-    // A refusal is matched in the calls below, since `map_err` would take the book into its closure.
-    // The row as the next of the book, or what it is refused for.
-    fn admit(&self, text: &[u8], row: Row) -> Result<LawfulRow, BookFault>
-        ensures { heard told_book (row_in result) ≡ admitted (length text.now) self.now.length self.now.rows row }
-    {
-        let desk = Desk {
-            len: text.len(),
-            at: self.length,
-            rows: self.rows,
-        };
-        desk.admit(row)
-    }
-
+    // A refusal is matched here and in `seal`, since `map_err` would take the book into its closure.
+    // The row as the next of the book, written behind it, or what it is refused for.
     fn file_row(self, text: &mut [u8], row: Row) -> Result<Filed<OpenBook>, Refused<OpenBook>>
         ensures { MatchResult result (λ p. RowFiled self text.old row p text.new) (λ p. Unchanged self text.old (admitted (length text.old) self.length self.rows row) p text.new) }
     {
-        match self.admit(text, row) {
+        match Desk::of(text, self.length, self.rows).admit(row) {
             Err(fault) => Err(Refused { back: self, fault }),
             Ok(lawful) => {
                 let OpenBook { length, rows } = self;
@@ -78,25 +62,20 @@ impl OpenBook {
         ensures outcome { MatchResult result (λ p. GroupBegun self text.old members p text.new) (λ p. Unchanged self text.old (admitted (length text.old) self.length self.rows (kind.Group members)) p text.new) }
         ensures holds { IfOk result (λ p. (rs : List Row) → Holds text.old self rs → Owes text.new p.next rs (kind.Group members ∷ [])) }
     {
-        match self.admit(text, Row::Group(members)) {
-            Err(fault) => Err(Refused { back: self, fault }),
-            Ok(lawful) => {
-                let OpenBook { length, rows } = self;
-                lawful.write(text, length);
-                let group = GroupUnderway {
-                    length: length + 2,
-                    rows: rows + 1,
-                    due: members,
-                    group: rows,
-                    before: length,
-                    first: None,
-                };
-                Ok(Filed {
-                    next: group,
-                    row: rows,
-                })
-            }
-        }
+        let before = self.length;
+        let filed = self.file_row(text, Row::Group(members))?;
+        let group = GroupUnderway {
+            length: filed.next.length,
+            rows: filed.next.rows,
+            due: members,
+            group: filed.row,
+            before,
+            first: None,
+        };
+        Ok(Filed {
+            next: group,
+            row: filed.row,
+        })
     }
 
     // Seals the book, and tells its length, the seal included.
@@ -104,12 +83,7 @@ impl OpenBook {
         ensures outcome { MatchResult result (λ n. BookSealed self text.old n text.new) (λ p. Unchanged self text.old (roomed (length text.old) self.length self.rows 1) p text.new) }
         ensures reads { IfOk result (λ n. (rs : List Row) → Holds text.old self rs → (checked text.new ≡ Ok (record { length = n; rows = length rs })) × (rows_in text.new ≡ rs)) }
     {
-        let desk = Desk {
-            len: text.len(),
-            at: self.length,
-            rows: self.rows,
-        };
-        match desk.room(1) {
+        match Desk::of(text, self.length, self.rows).room(1) {
             Err(fault) => Err(Refused { back: self, fault }),
             Ok(_room) => {
                 let OpenBook { length, rows: _ } = self;

@@ -4,9 +4,11 @@ use Rattle.byte_layer.specs.Fault.{heard, told_byte}
 use Rattle.book.specs.Fault.{told_book}
 use Rattle.book.specs.Command.{command_at}
 use Rattle.book.specs.Rows.{row_read}
+use Rattle.book.specs.Stands.{after}
 use Rattle.book.specs.Reading.{step_of}
-use Rattle.book.proofs.Steps.{command_size_lem, row_size_lem}
+use Rattle.book.proofs.Steps.{command_size_lem, row_size_lem, row_some}
 use Rattle.book.proofs.step.step.Goals as goal
+use Rattle.book.proofs.step.step.Goals.{else-s-ge-MOST_ROWS-via-then-s-ge-MOST_ROWS+else-not-is_seal, else-s-ge-MOST_ROWS-via-else-s-ge-MOST_ROWS}
 
 pub returns-in_err-command : goal.returns-in_err-command
 unfolding step_of
@@ -21,15 +23,9 @@ returns-then-not-is_bid c =
     let e : command_at c.args.s.at c.args.text.now ≡ Ok c.in_ok-command.command = sym c.at.ensures ∙ ap (heard told_byte) c.in_ok-command.was in
     rw e (search rules)
 
-pub returns-then-is_seal : goal.returns-then-is_seal
+pub returns-then-not-is_seal : goal.returns-then-not-is_seal
 unfolding step_of
-returns-then-is_seal c =
-    let e : command_at c.args.s.at c.args.text.now ≡ Ok c.in_ok-command.command = sym c.at.ensures ∙ ap (heard told_byte) c.in_ok-command.was in
-    rw e (search rules)
-
-pub returns-then-s-ge-MOST_ROWS : goal.returns-then-s-ge-MOST_ROWS
-unfolding step_of
-returns-then-s-ge-MOST_ROWS c =
+returns-then-not-is_seal c =
     let e : command_at c.args.s.at c.args.text.now ≡ Ok c.in_ok-command.command = sym c.at.ensures ∙ ap (heard told_byte) c.in_ok-command.was in
     rw e (search rules)
 
@@ -47,18 +43,34 @@ after-requires c =
     let f : row_read c.in_ok-command.command c.args.s.rows c.args.text.now ≡ Ok (Some c.in-Some.row) = sym c.row.ensures ∙ ap (heard told_book) (c.in_ok-row.was ∙ ap Ok c.in-Some.is) in
     let a = command_size_lem c.args.s.at c.args.text.now c.in_ok-command.command e in
     let b = row_size_lem c.in_ok-command.command c.args.s.rows c.args.text.now c.in-Some.row f in
-    (omega arith, omega arith)
+    let g = row_some c.in_ok-command.command c.args.s.rows c.args.text.now c.in-Some.row f in (
+      omega arith,
+      elim c.else-s-ge-MOST_ROWS.branch [
+        | else-s-ge-MOST_ROWS-via-then-s-ge-MOST_ROWS+else-not-is_seal w ↦ grind (arith, g)
+        | else-s-ge-MOST_ROWS-via-else-s-ge-MOST_ROWS w ↦ omega arith
+      ],
+    )
 
-pub returns-in-Some : goal.returns-in-Some
+pub returns-in_err-next : goal.returns-in_err-next
 unfolding step_of
-returns-in-Some c =
+returns-in_err-next c =
+    let p = err_from_is_err_and c.from_residual-in_err-next.result c.from_residual-in_err-next.ensures.1 in
     let e : command_at c.args.s.at c.args.text.now ≡ Ok c.in_ok-command.command = sym c.at.ensures ∙ ap (heard told_byte) c.in_ok-command.was in
     let f : row_read c.in_ok-command.command c.args.s.rows c.args.text.now ≡ Ok (Some c.in-Some.row) = sym c.row.ensures ∙ ap (heard told_book) (c.in_ok-row.was ∙ ap Ok c.in-Some.is) in
+    let g : after c.args.s c.in-Some.row ≡ Err (told_book c.in_err-next.field-0.0) = sym c.after.ensures ∙ ap (heard told_book) c.in_err-next.was in
+    rw (e, f, g) (search rules)
+
+pub returns-in_default : goal.returns-in_default
+unfolding step_of
+returns-in_default c =
+    let e : command_at c.args.s.at c.args.text.now ≡ Ok c.in_ok-command.command = sym c.at.ensures ∙ ap (heard told_byte) c.in_ok-command.was in
+    let f : row_read c.in_ok-command.command c.args.s.rows c.args.text.now ≡ Ok None = sym c.row.ensures ∙ ap (heard told_book) (c.in_ok-row.was ∙ ap Ok c.in_default.is) in
     rw (e, f) (search rules)
 
-pub returns-in-None : goal.returns-in-None
+pub returns : goal.returns
 unfolding step_of
-returns-in-None c =
+returns c =
     let e : command_at c.args.s.at c.args.text.now ≡ Ok c.in_ok-command.command = sym c.at.ensures ∙ ap (heard told_byte) c.in_ok-command.was in
-    let f : row_read c.in_ok-command.command c.args.s.rows c.args.text.now ≡ Ok None = sym c.row.ensures ∙ ap (heard told_book) (c.in_ok-row.was ∙ ap Ok c.in-None.is) in
-    rw (e, f) (search rules)
+    let f : row_read c.in_ok-command.command c.args.s.rows c.args.text.now ≡ Ok (Some c.in-Some.row) = sym c.row.ensures ∙ ap (heard told_book) (c.in_ok-row.was ∙ ap Ok c.in-Some.is) in
+    let g : after c.args.s c.in-Some.row ≡ Ok c.in_ok-next.next = sym c.after.ensures ∙ ap (heard told_book) c.in_ok-next.was in
+    rw (e, f, g) (search rules)

@@ -1,4 +1,4 @@
-use Rattle.std.proofs.Common.{◌≡◌, true, ◌∷◌, Some, Ok, length, sym, ap, ◌∙◌, subst, arith}
+use Rattle.std.proofs.Common.{◌≡◌, true, ◌∷◌, Ok, length, sym, ap, ◌∙◌, subst, arith}
 use Rattle.units.specs.Limit.{is_area}
 use Rattle.units.proofs.Judged.{judged_ok}
 use Rattle.bid.specs.Fields.{bid_fine}
@@ -34,5 +34,5 @@ returns c =
     let n = c.in-Some.after in
     record {
       ahead = c.in-Some.ensures.ahead ∙ ap (λ (r : Row). r ∷ ahead n.stand n.rest.now) row;
-      stands = member_on_lem x.stand b.fields n.stand (subst (λ (r : Row). after x.stand r ≡ Ok (Some (r, n.stand))) row c.in-Some.ensures.after) c.requires;
+      stands = member_on_lem x.stand b.fields n.stand (subst (λ (r : Row). after x.stand r ≡ Ok n.stand) row c.in-Some.ensures.after) c.requires;
     }

@@ -27,5 +27,5 @@ returns c =
     record {
       ahead = on_rows x.stand t r n e x.sound ∙ ap₂ (λ s u. r ∷ ahead s u) (sym c.behind.ensures.stand) (sym c.behind.ensures.rest);
       due = let k = step_took x.stand t r n e in subst (λ (d : Command). (ltb 0 (due_of x.stand) && not (is_bid d)) ≡ false) (command_of_lem k.command x.stand.rows t r k.row) k.due;
-      after = (step_took x.stand t r n e).next ∙ ap (λ s. Ok (Some (r, s))) (sym c.behind.ensures.stand);
+      after = (step_took x.stand t r n e).next ∙ ap Ok (sym c.behind.ensures.stand);
     }

@@ -1,4 +1,4 @@
-use Rattle.std.proofs.Common.{◌≡◌, List, ◌∷◌, ◌++◌, length, Some, Ok, sym, ap, ◌∙◌, subst, ap₂}
+use Rattle.std.proofs.Common.{◌≡◌, List, ◌∷◌, ◌++◌, length, Ok, sym, ap, ◌∙◌, subst, ap₂}
 use Rattle.lot.specs.Join.{Parted}
 use Rattle.bid.specs.Group.{group_fine}
 use Rattle.group.specs.Group.{grouping}
@@ -21,7 +21,7 @@ group-requires c =
     let x = c.args.self.rows in
     let n = c.in_ok-row.after.stand in
     record {
-      begun = rw c.from.ensures (begins_group x.stand c.in-Group.size n (subst (λ (r : Row). after x.stand r ≡ Ok (Some (r, n))) c.in-Group.is c.in_ok-row.ensures.after));
+      begun = rw c.from.ensures (begins_group x.stand c.in-Group.size n (subst (λ (r : Row). after x.stand r ≡ Ok n) c.in-Group.is c.in_ok-row.ensures.after));
       fine = ap group_fine c.from.ensures ∙ ap lawful_row (sym c.in-Group.is) ∙ lawful_first c.in_ok-row.row _ (ap lawful_rows (sym c.in_ok-row.ensures.ahead) ∙ x.lawful);
     }
 
