@@ -46,12 +46,7 @@ impl TryFrom<BidFields> for Bid {
 
     fn try_from(fields: BidFields) -> Result<Bid, FieldFault> {
         are_four(&fields.quarters);
-        if !is_area(fields.area) {
-            return Err(FieldFault::Area);
-        }
-        if !bid_fine(&fields.quarters) {
-            return Err(FieldFault::Rule);
-        }
+        FieldFault::judge(is_area(fields.area), bid_fine(&fields.quarters))?;
         Ok(Bid { fields })
     }
 }

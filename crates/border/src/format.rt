@@ -44,12 +44,10 @@ impl TryFrom<BorderFields> for Border {
 
     fn try_from(fields: BorderFields) -> Result<Border, FieldFault> {
         are_four(&fields.quarters);
-        if !border_placed(fields.from, fields.to) {
-            return Err(FieldFault::Area);
-        }
-        if !border_fine(&fields.quarters) {
-            return Err(FieldFault::Rule);
-        }
+        FieldFault::judge(
+            border_placed(fields.from, fields.to),
+            border_fine(&fields.quarters),
+        )?;
         Ok(Border { fields })
     }
 }

@@ -45,12 +45,10 @@ impl TryFrom<NeedFields> for Need {
 
     fn try_from(fields: NeedFields) -> Result<Need, FieldFault> {
         are_four(&fields.quarters);
-        if !is_area(fields.area) {
-            return Err(FieldFault::Area);
-        }
-        if !need_fine(fields.elasticity, &fields.quarters) {
-            return Err(FieldFault::Rule);
-        }
+        FieldFault::judge(
+            is_area(fields.area),
+            need_fine(fields.elasticity, &fields.quarters),
+        )?;
         Ok(Need { fields })
     }
 }

@@ -1,5 +1,6 @@
-ghost use Rattle.std.specs.Prelude.{◌≡◌, ℕ};
-ghost use Rattle.units.specs.Field.{told_field, unreadable};
+ghost use Rattle.std.specs.Prelude.{◌≡◌, ℕ, true, IfOk};
+ghost use Rattle.byte_layer.specs.Fault.{heard};
+ghost use Rattle.units.specs.Field.{told_field, judged, unreadable};
 
 use byte_layer::fault::{Layer, Told};
 
@@ -24,6 +25,20 @@ impl FieldFault {
             layer: Layer::Book,
             place: row,
         }
+    }
+
+    // Which rule is broken, if any, where `areas` says that the areas are lawful, and `others` that the other fields are.
+    pub fn judge(areas: bool, others: bool) -> Result<(), FieldFault>
+        ensures told { (row : ℕ) → heard (told_field row) result ≡ judged row areas others tt }
+        ensures lawful { IfOk result (λ _. (areas ≡ true) × (others ≡ true)) }
+    {
+        if !areas {
+            return Err(FieldFault::Area);
+        }
+        if !others {
+            return Err(FieldFault::Rule);
+        }
+        Ok(())
     }
 
     // The fault of fields that hold a byte which names nothing: its area, if that is none, comes first.
