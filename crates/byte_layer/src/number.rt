@@ -156,9 +156,10 @@ pub fn read<T: Number<N>, const N: usize>(text: &[u8], at: usize) -> T
     ensures value { result ≡ T.of_code (number N text.now at) }
     ensures stood { placed text.now at (octets N (T.code result)) ≡ text.now }
 {
-    let mut bytes = [0u8; N];
-    bytes.copy_from_slice(&text[at..at + N]);
-    T::from_octets(&bytes)
+    let Some(bytes) = text[at..at + N].as_array() else {
+        return unreachable();
+    };
+    T::from_octets(bytes)
 }
 
 // Writes a number at a place of a text, where it is read again.
