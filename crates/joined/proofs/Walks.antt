@@ -1,26 +1,56 @@
 -- A walk over lots that are joined one after another: T is left of `all`, m is its first and n what comes after.
 -- Each invariant is a record so that its parameters are found from its type, and need not be written.
-use Rattle.std.proofs.Common.{◌≡◌, ℕ, ◌+◌, ◌-◌, ◌*◌, ◌<◌, ◌≤◌, min, List, take, drop, ℤ, pos, ◌+ℤ◌, nat_abs, Some, None, Option, sym, refl, ap, ◌∙◌, arith}
+use Rattle.std.proofs.Common.{◌≡◌, ℕ, ◌+◌, ◌-◌, ◌*◌, ◌<◌, ◌≤◌, min, List, take, drop, ℤ, pos, ◌+ℤ◌, nat_abs, Some, None, Option, FitsSigned, w64, fold, sym, refl, ap, ap₂, ◌∙◌, subst, arith}
 use Rattle.std.proofs.lemmas.Int.{ints}
-use Rattle.std.specs.Option.{option_map}
+use Rattle.std.specs.Fn.{Mut, Called, Takes}
+use Rattle.std.specs.declared.iter.Map.{Map}
+use Rattle.std.specs.Iterator.{Drains, CallableOnAll}
+use Rattle.std.specs.Iterator.Adapters.{map_source, map_callee, map_steps}
+use Rattle.std.specs.Iterator.Runs.{EachRunFrom}
+use Rattle.std.specs.List.{FoldsTo}
+use Rattle.std.specs.Option.{option_map, MatchOption}
 use Rattle.lot.specs.Meaning.{Meaning, Cells, Prices, Quoted, Capped, cell_rows, lot_net}
 use Rattle.lot.specs.Duties.{most_lot_rows, Duties}
 use Rattle.lot.specs.Parts.{first_named}
 use Rattle.lot.specs.Join.{Parted, nothing}
 use Rattle.lot.specs.Page.{table_of, Ready}
 use Rattle.lot.proofs.Limits.{net_limit, best_low}
-use Rattle.joined.proofs.Halves.{Figure, Naming, nothing_net, rows_of_lem, best_of_lem, net_of_lem, next_ready}
+use Rattle.joined.proofs.Halves.{Figure, Naming, nothing_net, rows_of_lem, best_of_lem, net_of_lem, first_ready, next_ready}
+use Rattle.lot.specs.declared.lot.Lot.{Ghosts as Lot}
+use Rattle.joined.specs.declared.chain.Chain.{Ghosts as Chain}
+use Rattle.joined.specs.declared.parts.Links.{Links}
+use Rattle.joined.specs.declared.parts.Part.{Part}
+use Rattle.joined.specs.declared.parts.Parts.{Parts}
+use Rattle.joined.proofs.Turns.{ended, sum_can, sum_fits, sum_ends}
+
+-- ---- what the iterators over a chain give (parts.rt)
+module _ {C L : Type 0} (k : Chain C L) (l : Lot L) where
+  abbrev pub TakesLot : Links C → Option L → Links C → Type 0
+  TakesLot s r t = MatchOption r (k.meaning s.0 ≡ nothing) (λ lot. Parted (k.meaning s.0) (l.meaning lot) (k.meaning t.0))
+
+  abbrev pub TakesPart : Parts C L k l → Option (Part L) → Parts C L k l → Type 0
+  TakesPart s r t = MatchOption r (k.meaning s.chain ≡ nothing) (λ p. record {
+    two : Parted (k.meaning s.chain) (l.meaning p.lot) (k.meaning t.chain);
+    front : p.cells.bytes.now ≡ take (17 * cell_rows (l.meaning p.lot)) s.rest.bytes.now;
+    rest : t.rest.bytes.now ≡ drop (17 * cell_rows (l.meaning p.lot)) s.rest.bytes.now;
+    before : p.before ≡ s.passed;
+    passed : t.passed ≡ s.passed + (l.meaning p.lot).rows;
+  })
 
 -- ---- rows and cell rows
-pub record Counting (f : Meaning → ℕ) (T all : Meaning) (total : ℕ) : Type 0 where
+record Counting (f : Meaning → ℕ) (T all : Meaning) (total : ℕ) : Type 0 where
   pub small : total ≤ 4097
   pub same : min (total + f T) 4097 ≡ min (f all) 4097
 
-pub counting_next : {T m n : Meaning} → Parted T m n → {f : Meaning → ℕ} {all : Meaning} {total : ℕ} → Counting f T all total → f T ≡ f m + f n → (r x : ℕ) → r ≡ min (f m) 4097 → x ≡ min (total + r) 4097 → Counting f n all x
-counting_next _ inv e r x v u = let k = inv.small in let j = inv.same in record { small = omega arith; same = omega arith }
-
-pub counting_end : {f : Meaning → ℕ} {T all : Meaning} {total : ℕ} → Counting f T all total → T ≡ nothing → f nothing ≡ 0 → total ≡ min (f all) 4097
-counting_end {f} inv e z = let k = inv.small in let j = inv.same in let y = ap f e ∙ z in omega arith
+pub counted : {C L F : Type 0} (k : Chain C L) (l : Lot L) (f : Meaning → ℕ) (R : F × ℕ → L → F × ℕ → Type 0)
+    → ((p : F × ℕ) (x : L) (q : F × ℕ) → R p x q → q.1 ≡ min (p.1 + min (f (l.meaning x)) 4097) 4097)
+    → {s : _} {e : F} {r : ℕ} → (xs : List L) × (e' : F) × Drains (TakesLot k l) s xs × FoldsTo {P = F × ℕ} R (e, 0) xs (e', r)
+    → ((T m n : Meaning) → Parted T m n → f T ≡ f m + f n) → f nothing ≡ 0 → r ≡ min (f (k.meaning s.0)) 4097
+counted k l f R turn {s} ran splits none =
+    let e = ended (TakesLot k l) R (λ t p. Counting f (k.meaning t.0) (k.meaning s.0) p.1)
+    (λ t u x p q j e c. let o = splits _ _ _ e in let h = j.small in let i = j.same in let v = turn p x q c in record { small = omega arith; same = omega arith })
+    ran.0 ran.2 ran.3 record { small = omega arith; same = omega arith } in
+    let h = e.2.small in let i = e.2.same in let z = ap f e.3 ∙ none in omega arith
 
 -- ---- the row that is named, with k rows before it
 abbrev raised : ℕ → Option ℕ → Option ℕ
@@ -86,6 +116,30 @@ netting_end {a} {t} {T} {rest = rest} inv e =
     let k = inv.same in
     omega (arith, ints)
 
+module _ {C L F : Type 0} (k : Chain C L) (l : Lot L) (a t : ℕ) (g : Mut F (Part L × Unit {0}) ℤ) {f : F} {m : Map (Parts C L k l) F} {s : Parts C L k l} (es : map_source m ≡ s) (ef : map_callee m ≡ f)
+    {c : C} {b : List ℕ} (ec : s.chain ≡ c) (eb : s.rest.bytes.now ≡ b) (ready : Ready (k.meaning c) b)
+    (turn : (x : Part L) (v : ℤ) (h : F) → Called g f (x, tt) v h → (h ≡ f) × (v ≡ lot_net (l.meaning x.lot) (table_of x.cells.bytes.now) a t)) where
+  abbrev netted : Parts C L k l → ℤ → Type 0
+  netted u v = Netting a t (k.meaning u.chain) (k.meaning c) u.rest.bytes.now b v
+
+  netted_none : netted s (pos 0)
+  netted_none =
+      let same : lot_net (k.meaning s.chain) (table_of s.rest.bytes.now) a t ≡ lot_net (k.meaning c) (table_of b) a t = ap₂ (λ x y. lot_net (k.meaning x) (table_of y) a t) ec eb in
+      record { ready = subst (Ready (k.meaning s.chain)) (sym eb) (subst (λ x. Ready (k.meaning x) b) (sym ec) ready); same = omega (arith, ints) }
+
+  netted_next : (u w : Parts C L k l) (x : Part L) (q v : ℤ) (h : F) → netted u q → TakesPart k l u (Some x) w → Called g f (x, tt) v h → (h ≡ f) × netted w (q +ℤ v)
+  netted_next u w x q v h j e d = let o = turn x v h d in (o.0, netting_next e.two j e.front e.rest v _ o.1 refl)
+
+  pub net_can : ((x : Part L) → Ready (l.meaning x.lot) x.cells.bytes.now → Takes g f (x, tt)) → CallableOnAll (TakesPart k l) g (map_source m) (map_callee m)
+  net_can ask = sum_can (TakesPart k l) g es ef netted netted_none netted_next (λ u w x q j e. ask x (first_ready e.two e.front j.ready))
+
+  pub net_fits : a < 32 → t < 4 → EachRunFrom (map_steps (TakesPart k l) g) m (λ u. FitsSigned w64 (fold ◌+ℤ◌ (pos 0) u.items))
+  net_fits ha ht = sum_fits (TakesPart k l) g es ef netted netted_none netted_next
+      (λ u q j. let o = netting_within j (k.duties u.chain) (k.duties c) ready ha ht in omega (arith, ints))
+
+  pub net_sum : (xs : List ℤ) → Drains (map_steps (TakesPart k l) g) m xs → fold ◌+ℤ◌ (pos 0) xs ≡ lot_net (k.meaning c) (table_of b) a t
+  net_sum xs d = let e = sum_ends (TakesPart k l) g es ef netted netted_none netted_next xs d in netting_end e.2 e.3
+
 -- ---- the best surplus
 pub record Topping (p : Prices) (T all : Meaning) (total : ℤ) : Type 0 where
   pub few : T.rows ≤ most_lot_rows
@@ -104,6 +158,29 @@ topping_within {p} {T} {all} inv dT da quoted cap few =
     let few-T = inv.few in
     let k = inv.same in
     omega (arith, ints)
+
+module _ {C L F : Type 0} (k : Chain C L) (l : Lot L) (p : Prices) (g : Mut F (L × Unit {0}) ℤ) {f : F} {m : Map (Links C) F} {s : Links C} (es : map_source m ≡ s) (ef : map_callee m ≡ f) (few : (k.meaning s.0).rows ≤ most_lot_rows)
+    (turn : (x : L) (v : ℤ) (h : F) → Called g f (x, tt) v h → (h ≡ f) × (v ≡ (l.meaning x).best p)) where
+  abbrev topped : Links C → ℤ → Type 0
+  topped t v = Topping p (k.meaning t.0) (k.meaning s.0) v
+
+  topped_none : topped s (pos 0)
+  topped_none = record { few = few; same = omega (arith, ints) }
+
+  topped_next : (t u : Links C) (x : L) (q v : ℤ) (h : F) → topped t q → TakesLot k l t (Some x) u → Called g f (x, tt) v h → (h ≡ f) × topped u (q +ℤ v)
+  topped_next t u x q v h j e c = let o = turn x v h c in (o.0, topping_next e j v _ o.1 refl)
+
+  pub best_can : ((x : L) → (l.meaning x).rows ≤ most_lot_rows → Takes g f (x, tt)) → CallableOnAll (TakesLot k l) g (map_source m) (map_callee m)
+  best_can ask = sum_can (TakesLot k l) g es ef topped topped_none topped_next (λ t u x q j e. ask x (let o = rows_of_lem e in let h = j.few in omega arith))
+
+  pub best_fits : Quoted p → Capped p → EachRunFrom (map_steps (TakesLot k l) g) m (λ u. FitsSigned w64 (fold ◌+ℤ◌ (pos 0) u.items))
+  best_fits quoted cap = sum_fits (TakesLot k l) g es ef topped topped_none topped_next
+      (λ t q j. let o = topping_within j (k.duties t.0) (k.duties s.0) quoted cap few in omega (arith, ints))
+
+  pub best_sum : (xs : List ℤ) → Drains (map_steps (TakesLot k l) g) m xs → fold ◌+ℤ◌ (pos 0) xs ≡ (k.meaning s.0).best p
+  best_sum xs d =
+      let e = sum_ends (TakesLot k l) g es ef topped topped_none topped_next xs d in
+      let j = e.2.same in let z = ap (λ M. M.best p) e.3 in omega (arith, ints)
 
 -- ---- the figure of one row
 pub record Seeking {A : Type 0} (w : Meaning → Cells → ℕ → A) (T all : Meaning) (rest cells : List ℕ) (left row : ℕ) : Type 0 where

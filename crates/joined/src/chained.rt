@@ -60,19 +60,11 @@ impl<C: Chain> Lot for Chained<C> {
     ghost limited = { λ x. (C.Chain.duties x.0).limited };
 
     fn row_count(&self) -> usize {
-        let mut total = 0;
-        for lot in Links(self.0) {
-            total = (total + lot.row_count()).min(COUNTED);
-        }
-        total
+        Links(self.0).fold(0, |total, lot| (total + lot.row_count()).min(COUNTED))
     }
 
     fn cell_row_count(&self) -> usize {
-        let mut total = 0;
-        for lot in Links(self.0) {
-            total = (total + lot.cell_row_count()).min(COUNTED);
-        }
-        total
+        Links(self.0).fold(0, |total, lot| (total + lot.cell_row_count()).min(COUNTED))
     }
 
     // A `for` here and in `broken_row`: the closure of a `find_map` would have to state again what the question asks.
@@ -86,11 +78,9 @@ impl<C: Chain> Lot for Chained<C> {
     }
 
     fn net(&self, cells: Cells<'_>, area: usize, quarter: usize) -> i64 {
-        let mut total = 0;
-        for part in self.parts(cells) {
-            total += part.lot.net(part.cells, area, quarter);
-        }
-        total
+        self.parts(cells)
+            .map(|part| part.lot.net(part.cells, area, quarter))
+            .sum()
     }
 
     fn worth(&self, cells: Cells<'_>, row: usize) -> i64 {
@@ -104,11 +94,7 @@ impl<C: Chain> Lot for Chained<C> {
     }
 
     fn best(&self, prices: CappedPrices<'_>) -> i64 {
-        let mut total = 0;
-        for lot in Links(self.0) {
-            total += lot.best(prices);
-        }
-        total
+        Links(self.0).map(|lot| lot.best(prices)).sum()
     }
 
     fn broken_row(&self, cells: Cells<'_>, prices: CappedPrices<'_>) -> Option<usize> {

@@ -1,20 +1,14 @@
-use Rattle.std.proofs.Common.{refl, arith}
-use Rattle.std.proofs.lemmas.Int.{ints}
-use Rattle.joined.proofs.Halves.{first_ready}
-use Rattle.joined.proofs.Walks.{netting_next, netting_within, netting_end}
+use Rattle.std.proofs.Common.{rules, ◌∙◌, w64}
+use Rattle.std.proofs.lemmas.Int.{to_z-of_z}
+use Rattle.joined.proofs.Walks.{net_can, net_fits, net_sum}
 use Rattle.joined.proofs.chained.ChainedLot.net.Goals as goal
 
-pub net-total-requires : goal.net-total-requires
-net-total-requires g c = let p = c.in-Some.ensures.steps in record { ready = first_ready p.two p.front c.loop-part.invariant.ready; area = c.requires.area; quarter = c.requires.quarter }
+pub sum-requires-clause-can : goal.sum-requires-clause-can
+sum-requires-clause-can g c = (tt, net_can g.C.Chain g.C.Link.Lot c.args.area c.args.quarter _ c.map.ensures.source c.map.ensures.closure c.parts.ensures.chain c.parts.ensures.rest c.requires.ready (λ x v h k. search rules) (λ x ready. search rules))
 
-pub overflow_add-total : goal.overflow_add-total
-overflow_add-total g c =
-    let p = c.in-Some.ensures.steps in
-    let lim = netting_within (netting_next p.two c.loop-part.invariant p.front p.rest _ _ c.net-total.ensures refl) (g.C.Chain.duties _) (g.C.Chain.duties _) c.requires.ready c.requires.area c.requires.quarter in
-    omega (arith, ints)
-
-pub loop-part-preserved : goal.loop-part-preserved
-loop-part-preserved g c = let p = c.in-Some.ensures.steps in netting_next p.two c.loop-part.invariant p.front p.rest _ _ c.net-total.ensures (let fits = overflow_add-total g c in omega (arith, ints))
+pub sum-requires-clause-fits : goal.sum-requires-clause-fits
+sum-requires-clause-fits g c = net_fits g.C.Chain g.C.Link.Lot _ _ _ c.map.ensures.source c.map.ensures.closure c.parts.ensures.chain c.parts.ensures.rest c.requires.ready (λ x v h k. search rules) c.requires.area c.requires.quarter
 
 pub returns : goal.returns
-returns g c = netting_end c.loop-part.invariant c.in-None.ensures.steps
+returns g c = to_z-of_z w64 c.sum.result (search rules) ∙ c.sum.ensures.ran.2
+    ∙ net_sum g.C.Chain g.C.Link.Lot c.args.area c.args.quarter _ c.map.ensures.source c.map.ensures.closure c.parts.ensures.chain c.parts.ensures.rest c.requires.ready (λ x v h k. search rules) c.sum.ensures.ran.0 (c.sum.ensures.ran.1 tt)

@@ -1,0 +1,45 @@
+-- Totals of an iterator's items: J holds of the iterator and of the total at the start, and each turn keeps it.
+use Rattle.std.proofs.Common.{◌≡◌, List, [], ◌∷◌, ℤ, pos, ◌+ℤ◌, Some, None, Option, FitsSigned, w64, fold, subst, sym}
+use Rattle.std.specs.Fn.{Mut, Called, Takes}
+use Rattle.std.specs.declared.iter.Map.{Map}
+use Rattle.std.specs.Iterator.{Yields, Drains, CallableAtEachTurn, CallableOnAll}
+use Rattle.std.specs.Iterator.Adapters.{map_source, map_callee, map_steps}
+use Rattle.std.specs.Iterator.Runs.{EachRunFrom}
+use Rattle.std.specs.List.{FoldsTo}
+use Rattle.std.proofs.iter.runs.Made.{runs_from_along}
+
+module _ {S A P : Type 0} (steps : S → Option A → S → Type 0) (R : P → A → P → Type 0) (J : S → P → Type 0) (next : (s t : S) (x : A) (p q : P) → J s p → steps s (Some x) t → R p x q → J t q) where
+  along : (xs : List A) (s t : S) (p q : P) → J s p → Yields steps s xs t → FoldsTo R p xs q → J t q
+  along [] s t p q j y f = subst (J t) f (subst (λ u. J u p) y j)
+  along (x ∷ xs) s t p q j y f = along xs y.0 t f.0 q (next s y.0 x p f.0 j y.1 f.1) y.2 f.2
+
+  -- what each turn asks follows from J
+  pub asked : {Q : P → A → Type 0} {s : S} {p : P} → J s p → ((s t : S) (x : A) (p : P) → J s p → steps s (Some x) t → Q p x) → CallableAtEachTurn steps R Q s p
+  asked {s = s} {p = p} j ask = record { at = λ xs t q x u y f e. ask t u x q (along xs s t p q j y f) e }
+
+  -- where `None` comes
+  pub ended : {s : S} {p q : P} (xs : List A) → Drains steps s xs → FoldsTo R p xs q → J s p → (t : S) × (u : S) × J t q × steps t None u
+  ended {s} {p} {q} xs d f j = (d.1.0, d.0, along xs s d.1.0 p q j d.1.1 f, d.1.2)
+
+-- the sum of what f answers, which the calls leave as it was
+module _ {S A F : Type 0} (steps : S → Option A → S → Type 0) (g : Mut F (A × Unit {0}) ℤ) {f : F} {m : Map S F} {s : S} (es : map_source m ≡ s) (ef : map_callee m ≡ f) (J : S → ℤ → Type 0) (start : J s (pos 0))
+    (next : (t u : S) (x : A) (p v : ℤ) (h : F) → J t p → steps t (Some x) u → Called g f (x, tt) v h → (h ≡ f) × J u (p +ℤ v)) where
+  summed : (xs : List ℤ) (a b : Map S F) (p : ℤ) → map_callee a ≡ f → J (map_source a) p → Yields (map_steps steps g) a xs b → J (map_source b) (fold ◌+ℤ◌ p xs)
+  summed [] a b p e j y = subst (λ k. J (map_source k) p) y j
+  summed (v ∷ xs) a b p e j y =
+      let k = next (map_source a) (map_source y.0) y.1.0 p v (map_callee y.0) j y.1.1 (subst (λ h. Called g h (y.1.0, tt) v (map_callee y.0)) e y.1.2) in
+      summed xs y.0 b (p +ℤ v) k.0 k.1 y.2
+
+  began : J (map_source m) (pos 0)
+  began = subst (λ k. J k (pos 0)) (sym es) start
+
+  pub sum_can : ((t u : S) (x : A) (p : ℤ) → J t p → steps t (Some x) u → Takes g f (x, tt)) → CallableOnAll steps g (map_source m) (map_callee m)
+  sum_can ask = asked steps _ (λ t h. (p : ℤ) × J t p × (h ≡ f))
+      (λ t u x h i j e c. let k = next t u x j.0 c.0 i j.1 e (subst (λ h. Called g h (x, tt) c.0 i) j.2 c.1) in (j.0 +ℤ c.0, k.1, k.0))
+      (pos 0, began, ef) (λ t u x h j e. subst (λ h. Takes g h (x, tt)) (sym j.2) (ask t u x j.0 j.1 e))
+
+  pub sum_fits : ((t : S) (p : ℤ) → J t p → FitsSigned w64 p) → EachRunFrom (map_steps steps g) m (λ p. FitsSigned w64 (fold ◌+ℤ◌ (pos 0) p.items))
+  sum_fits within = runs_from_along _ _ (λ xs. FitsSigned w64 (fold ◌+ℤ◌ (pos 0) xs)) (λ xs t y. within (map_source t) _ (summed xs m t (pos 0) ef began y))
+
+  pub sum_ends : (xs : List ℤ) → Drains (map_steps steps g) m xs → (t : S) × (u : S) × J t (fold ◌+ℤ◌ (pos 0) xs) × steps t None u
+  sum_ends xs d = (map_source d.1.0, map_source d.0, summed xs m d.1.0 (pos 0) ef began d.1.1, d.1.2.0)
