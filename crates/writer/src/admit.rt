@@ -18,7 +18,7 @@ pub struct Desk {
 }
 
 impl Desk {
-    pub fn of(text: &[u8], at: usize, rows: usize) -> Desk
+    pub fn over(text: &[u8], at: usize, rows: usize) -> Desk
         ensures { result ≡ record { len = length text.now; at = at; rows = rows } }
     {
         Desk {

@@ -26,7 +26,7 @@ impl OpenBook {
     fn file_row(self, text: &mut [u8], row: Row) -> Result<Filed<OpenBook>, Refused<OpenBook>>
         ensures { MatchResult result (λ p. RowFiled self text.old row p text.new) (λ p. Unchanged self text.old (admitted (length text.old) self.length self.rows row) p text.new) }
     {
-        match Desk::of(text, self.length, self.rows).admit(row) {
+        match Desk::over(text, self.length, self.rows).admit(row) {
             Err(fault) => Err(Refused { back: self, fault }),
             Ok(lawful) => {
                 let OpenBook { length, rows } = self;
@@ -83,7 +83,7 @@ impl OpenBook {
         ensures outcome { MatchResult result (λ n. BookSealed self text.old n text.new) (λ p. Unchanged self text.old (roomed (length text.old) self.length self.rows 1) p text.new) }
         ensures reads { IfOk result (λ n. (rs : List Row) → Holds text.old self rs → (checked text.new ≡ Ok (record { length = n; rows = length rs })) × (rows_in text.new ≡ rs)) }
     {
-        match Desk::of(text, self.length, self.rows).room(1) {
+        match Desk::over(text, self.length, self.rows).room(1) {
             Err(fault) => Err(Refused { back: self, fault }),
             Ok(_room) => {
                 let OpenBook { length, rows: _ } = self;

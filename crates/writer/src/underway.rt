@@ -52,7 +52,7 @@ impl GroupUnderway {
         ensures holds { IfOk result (λ p. (rs ms : List Row) → Owes text.old self rs ms → HoldsNext text.new p.next rs (ms ++ kind.Bid fields ∷ [])) }
     {
         are_four(&fields.quarters);
-        let admitted = Desk::of(text, self.length, self.rows).admit(Row::Bid(fields));
+        let admitted = Desk::over(text, self.length, self.rows).admit(Row::Bid(fields));
         match join(admitted, self.group, self.first, fields.area) {
             Err(fault) => Err(Refused { back: self, fault }),
             Ok(lawful) => {

@@ -16,14 +16,14 @@ use Rattle.writer.proofs.Filing.{member_holds}
 use Rattle.writer.proofs.state.GroupUnderway.member.Goals as goal
 
 pub write-requires : goal.write-requires
-write-requires c = let k = member_took (length c.args.text.now) c.args.self c.args.fields (row_of c.in-Ok.lawful) _ (subst (λ (d : Desk). heard told_book (row_in c.admit-admitted.result) ≡ admitted d.len d.at d.rows (kind.Bid c.args.fields)) c.of.ensures c.admit-admitted.ensures) c.in-Ok.ensures in omega (arith, k.room, k.size)
+write-requires c = let k = member_took (length c.args.text.now) c.args.self c.args.fields (row_of c.in-Ok.lawful) _ (subst (λ (d : Desk). heard told_book (row_in c.admit-admitted.result) ≡ admitted d.len d.at d.rows (kind.Bid c.args.fields)) c.over.ensures c.admit-admitted.ensures) c.in-Ok.ensures in omega (arith, k.room, k.size)
 
 pub onward-requires : goal.onward-requires
-onward-requires c = let k = member_took (length c.args.text.now) c.args.self c.args.fields (row_of c.in-Ok.lawful) _ (subst (λ (d : Desk). heard told_book (row_in c.admit-admitted.result) ≡ admitted d.len d.at d.rows (kind.Bid c.args.fields)) c.of.ensures c.admit-admitted.ensures) c.in-Ok.ensures in (omega (arith, k.room), k.few)
+onward-requires c = let k = member_took (length c.args.text.now) c.args.self c.args.fields (row_of c.in-Ok.lawful) _ (subst (λ (d : Desk). heard told_book (row_in c.admit-admitted.result) ≡ admitted d.len d.at d.rows (kind.Bid c.args.fields)) c.over.ensures c.admit-admitted.ensures) c.in-Ok.ensures in (omega (arith, k.room), k.few)
 
 pub returns-in-Ok : goal.returns-in-Ok
 returns-in-Ok c =
-    let k = member_took (length c.args.text.now) c.args.self c.args.fields (row_of c.in-Ok.lawful) _ (subst (λ (d : Desk). heard told_book (row_in c.admit-admitted.result) ≡ admitted d.len d.at d.rows (kind.Bid c.args.fields)) c.of.ensures c.admit-admitted.ensures) c.in-Ok.ensures in
+    let k = member_took (length c.args.text.now) c.args.self c.args.fields (row_of c.in-Ok.lawful) _ (subst (λ (d : Desk). heard told_book (row_in c.admit-admitted.result) ≡ admitted d.len d.at d.rows (kind.Bid c.args.fields)) c.over.ensures c.admit-admitted.ensures) c.in-Ok.ensures in
     let g = c.args.self in
     let p : Filed Membership = record { next = c.onward.result; row = g.rows } in
     let m : MemberFiled g c.args.text.now c.args.fields p c.write.new.text = record { passed = k.passed; next = c.onward.ensures; row = refl; text = c.write.ensures ∙ ap (λ (x : Row). placed c.args.text.now g.length (row_bytes x)) k.same } in

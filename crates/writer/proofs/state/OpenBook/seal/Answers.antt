@@ -9,5 +9,5 @@ use Rattle.writer.proofs.state.OpenBook.seal.Goals as goal
 pub returns-in-Ok : goal.returns-in-Ok
 returns-in-Ok c =
     let b = c.args.self in
-    let s : BookSealed b c.args.text.now (b.length + 1) c.write_bytes.new.text = record { passed = sym (subst (λ (d : Desk). Ok c.in-Ok._room ≡ roomed d.len d.at d.rows 1) c.of.ensures c.in-Ok.ensures); length = refl; text = c.write_bytes.ensures } in
+    let s : BookSealed b c.args.text.now (b.length + 1) c.write_bytes.new.text = record { passed = sym (subst (λ (d : Desk). Ok c.in-Ok._room ≡ roomed d.len d.at d.rows 1) c.over.ensures c.in-Ok.ensures); length = refl; text = c.write_bytes.ensures } in
     record { outcome = s; reads = λ rs w. sealed_checks c.args.text.now c.write_bytes.new.text (opened b) rs w refl s.text }
