@@ -1,12 +1,15 @@
 -- Totals of an iterator's items: J holds of the iterator and of the total at the start, and each turn keeps it.
-use Rattle.std.proofs.Common.{◌≡◌, List, [], ◌∷◌, ℤ, pos, ◌+ℤ◌, Some, None, Option, FitsSigned, w64, fold, subst, sym}
+use Rattle.std.proofs.Common.{◌≡◌, ℕ, ◌+◌, ◌<◌, List, [], ◌∷◌, ℤ, pos, ◌+ℤ◌, Some, None, Option, suc, FitsSigned, w64, fold, refl, subst, sym}
 use Rattle.std.specs.Fn.{Mut, Called, Takes}
 use Rattle.std.specs.declared.iter.Map.{Map}
-use Rattle.std.specs.Iterator.{Yields, Drains, CallableAtEachTurn, CallableOnAll}
+use Rattle.std.specs.Iterator.{Yields, YieldsThen, Drains, CallableAtEachTurn, CallableOnAll, CallableWhile, FindsMapped}
 use Rattle.std.specs.Iterator.Adapters.{map_source, map_callee, map_steps}
-use Rattle.std.specs.Iterator.Runs.{EachRunFrom}
+use Rattle.std.specs.Iterator.Runs.{EachRunFrom, SomeRun, AllItemsGive, IsFirstToGive}
 use Rattle.std.specs.List.{FoldsTo}
-use Rattle.std.proofs.iter.runs.Made.{runs_from_along}
+use Rattle.std.specs.Bool.{IsTrue}
+use Rattle.std.specs.Option.{MatchOption}
+use Rattle.std.proofs.iter.runs.Lists.{Everywhere}
+use Rattle.std.proofs.iter.runs.Made.{runs_from_along, took, each_of}
 
 module _ {S A P : Type 0} (steps : S → Option A → S → Type 0) (R : P → A → P → Type 0) (J : S → P → Type 0) (next : (s t : S) (x : A) (p q : P) → J s p → steps s (Some x) t → R p x q → J t q) where
   along : (xs : List A) (s t : S) (p q : P) → J s p → Yields steps s xs t → FoldsTo R p xs q → J t q
@@ -43,3 +46,40 @@ module _ {S A F : Type 0} (steps : S → Option A → S → Type 0) (g : Mut F (
 
   pub sum_ends : (xs : List ℤ) → Drains (map_steps steps g) m xs → (t : S) × (u : S) × J t (fold ◌+ℤ◌ (pos 0) xs) × steps t None u
   sum_ends xs d = (map_source d.1.0, map_source d.0, summed xs m d.1.0 (pos 0) ef began d.1.1, d.1.2.0)
+
+-- what `find_map` finds by f, which the calls leave as it was: J holds of the iterator for as long as f answers `None`
+module _ {S A F B : Type 0} (steps : S → Option A → S → Type 0) (g : Mut F (A × Unit {0}) (Option B)) (f : F) (J : S → Type 0) {s : S} (start : J s) (same : (x : A) (r : Option B) (h : F) → Called g f (x, tt) r h → h ≡ f)
+    (next : (t u : S) (x : A) → J t → steps t (Some x) u → Called g f (x, tt) None f → J u) where
+  abbrev kept : S → F → Type 0
+  kept t h = J t × (h ≡ f)
+
+  kept_next : (t u : S) (x : A) (h i : F) → kept t h → steps t (Some x) u → Called g h (x, tt) None i → kept u i
+  kept_next t u x h i j e c =
+      let k : Called g f (x, tt) None i = subst (λ h. Called g h (x, tt) None i) j.1 c in
+      let o = same x None i k in
+      (next t u x j.0 e (subst (λ h. Called g f (x, tt) None h) o k), o)
+
+  pub find_can : ((t u : S) (x : A) → J t → steps t (Some x) u → Takes g f (x, tt)) → CallableWhile steps g None s f
+  find_can ask = asked steps _ kept kept_next (start, refl) (λ t u x h j e. subst (λ h. Takes g h (x, tt)) (sym j.1) (ask t u x j.0 e))
+
+  each_none : (xs : List A) → Everywhere xs (λ x. Called g f (x, tt) None f) → FoldsTo (λ p x q. Called g p (x, tt) None q) f xs f
+  each_none [] e = refl
+  each_none (x ∷ xs) e = (f, e 0, each_none xs (λ k. e (suc k)))
+
+  pub found : {u : S} (r : Option B) → FindsMapped steps g s f r u → SomeRun steps s (λ p. MatchOption r (IsTrue p.whole × AllItemsGive p g f None) (λ y. (i : ℕ) × (i < p.len) × (p.len ≡ i + 1) × IsFirstToGive p g f (Some y) None i))
+      → MatchOption r ((t : S) × (u : S) × J t × steps t None u) (λ y. (t : S) × (u : S) × (x : A) × J t × steps t (Some x) u × Called g f (x, tt) (Some y) f)
+  found None ran runs =
+      let p = runs.0 in
+      let d = took p in
+      let all = each_of p _ (runs.2.1 (λ a r h c. same a.0 r h c)) in
+      let y = subst (λ k. Yields steps k p.items d.0) runs.1 d.1 in
+      let n = d.2 runs.2.0 in
+      (d.0, n.0, (along steps _ kept kept_next p.items s d.0 f f (start, refl) y (each_none p.items all)).0, n.1)
+  found {u} (Some y) ran runs = by ran.1 ran.3 ran.5
+    where
+      by : (o : Option A) → YieldsThen steps s ran.0 o u → MatchOption o (Some y ≡ None) (λ x. (h : F) × Called g ran.2 (x, tt) (Some y) h) → (t : S) × (u : S) × (x : A) × J t × steps t (Some x) u × Called g f (x, tt) (Some y) f
+      by None t e = cc
+      by (Some x) t e =
+          let j = along steps _ kept kept_next ran.0 s t.0 f ran.2 (start, refl) t.1 ran.4 in
+          let k : Called g f (x, tt) (Some y) e.0 = subst (λ h. Called g h (x, tt) (Some y) e.0) j.1 e.1 in
+          (t.0, u, x, j.0, t.2, subst (λ h. Called g f (x, tt) (Some y) h) (same x (Some y) e.0 k) k)

@@ -4,9 +4,10 @@ use Rattle.std.proofs.Common.{◌≡◌, ℕ, ◌+◌, ◌-◌, ◌*◌, ◌<◌
 use Rattle.std.proofs.lemmas.Int.{ints}
 use Rattle.std.specs.Fn.{Mut, Called, Takes}
 use Rattle.std.specs.declared.iter.Map.{Map}
-use Rattle.std.specs.Iterator.{Drains, CallableOnAll}
+use Rattle.std.specs.Iterator.{Drains, CallableOnAll, CallableWhile, FindsMapped}
 use Rattle.std.specs.Iterator.Adapters.{map_source, map_callee, map_steps}
-use Rattle.std.specs.Iterator.Runs.{EachRunFrom}
+use Rattle.std.specs.Iterator.Runs.{EachRunFrom, SomeRun, AllItemsGive, IsFirstToGive}
+use Rattle.std.specs.Bool.{IsTrue}
 use Rattle.std.specs.List.{FoldsTo}
 use Rattle.std.specs.Option.{option_map, MatchOption}
 use Rattle.lot.specs.Meaning.{Meaning, Cells, Prices, Quoted, Capped, cell_rows, lot_net}
@@ -21,7 +22,7 @@ use Rattle.joined.specs.declared.chain.Chain.{Ghosts as Chain}
 use Rattle.joined.specs.declared.parts.Links.{Links}
 use Rattle.joined.specs.declared.parts.Part.{Part}
 use Rattle.joined.specs.declared.parts.Parts.{Parts}
-use Rattle.joined.proofs.Turns.{ended, sum_can, sum_fits, sum_ends}
+use Rattle.joined.proofs.Turns.{ended, sum_can, sum_fits, sum_ends, find_can, found}
 
 -- ---- what the iterators over a chain give (parts.rt)
 module _ {C L : Type 0} (k : Chain C L) (l : Lot L) where
@@ -42,15 +43,21 @@ record Counting (f : Meaning → ℕ) (T all : Meaning) (total : ℕ) : Type 0 w
   pub small : total ≤ 4097
   pub same : min (total + f T) 4097 ≡ min (f all) 4097
 
+counting_next : {T m n : Meaning} → Parted T m n → {f : Meaning → ℕ} {all : Meaning} {total : ℕ} → Counting f T all total → f T ≡ f m + f n → (r x : ℕ) → r ≡ min (f m) 4097 → x ≡ min (total + r) 4097 → Counting f n all x
+counting_next _ inv e r x v u = let k = inv.small in let j = inv.same in record { small = omega arith; same = omega arith }
+
+counting_end : {f : Meaning → ℕ} {T all : Meaning} {total : ℕ} → Counting f T all total → T ≡ nothing → f nothing ≡ 0 → total ≡ min (f all) 4097
+counting_end {f} inv e z = let k = inv.small in let j = inv.same in let y = ap f e ∙ z in omega arith
+
+-- by `fold` over the lots
 pub counted : {C L F : Type 0} (k : Chain C L) (l : Lot L) (f : Meaning → ℕ) (R : F × ℕ → L → F × ℕ → Type 0)
     → ((p : F × ℕ) (x : L) (q : F × ℕ) → R p x q → q.1 ≡ min (p.1 + min (f (l.meaning x)) 4097) 4097)
     → {s : _} {e : F} {r : ℕ} → (xs : List L) × (e' : F) × Drains (TakesLot k l) s xs × FoldsTo {P = F × ℕ} R (e, 0) xs (e', r)
     → ((T m n : Meaning) → Parted T m n → f T ≡ f m + f n) → f nothing ≡ 0 → r ≡ min (f (k.meaning s.0)) 4097
 counted k l f R turn {s} ran splits none =
-    let e = ended (TakesLot k l) R (λ t p. Counting f (k.meaning t.0) (k.meaning s.0) p.1)
-    (λ t u x p q j e c. let o = splits _ _ _ e in let h = j.small in let i = j.same in let v = turn p x q c in record { small = omega arith; same = omega arith })
+    let e = ended (TakesLot k l) R (λ t p. Counting f (k.meaning t.0) (k.meaning s.0) p.1) (λ t u x p q j e c. counting_next e j (splits _ _ _ e) _ _ refl (turn p x q c))
     ran.0 ran.2 ran.3 record { small = omega arith; same = omega arith } in
-    let h = e.2.small in let i = e.2.same in let z = ap f e.3 ∙ none in omega arith
+    counting_end {T = k.meaning e.0.0} e.2 e.3 none
 
 -- ---- the row that is named, with k rows before it
 abbrev raised : ℕ → Option ℕ → Option ℕ
@@ -63,24 +70,24 @@ raised_next : (k l : ℕ) (x y : Option ℕ) → x ≡ None → raised k (first_
 raised_next k l x None e = ap (λ z. option_map (λ r. k + r) (first_named l z None)) e
 raised_next k l x (Some r) e = ap (λ z. option_map (λ r. k + r) (first_named l z (Some r))) e ∙ ap Some (omega arith)
 
-pub record Passing (ask : Meaning → List ℕ → Type 0) (q : Meaning → Cells → Option ℕ) (T all : Meaning) (rest cells : List ℕ) (passed : ℕ) : Type 0 where
+record Passing (ask : Meaning → List ℕ → Type 0) (q : Meaning → Cells → Option ℕ) (T all : Meaning) (rest cells : List ℕ) (passed : ℕ) : Type 0 where
   pub asked : ask T rest
   pub rows : passed + T.rows ≡ all.rows
   pub same : raised passed (q T (table_of rest)) ≡ q all (table_of cells)
 
 module _ {ask : Meaning → List ℕ → Type 0} {q : Meaning → Cells → Option ℕ} (naming : Naming ask q) where
-  pub passing_end : {T all : Meaning} {rest cells : List ℕ} {passed : ℕ} → Passing ask q T all rest cells passed → T ≡ nothing → None ≡ q all (table_of cells)
+  passing_end : {T all : Meaning} {rest cells : List ℕ} {passed : ℕ} → Passing ask q T all rest cells passed → T ≡ nothing → None ≡ q all (table_of cells)
   passing_end {rest = rest} {passed = passed} inv e = ap (raised passed) (sym (ap (λ M. q M (table_of rest)) e ∙ naming.none (table_of rest))) ∙ inv.same
 
   module _ {T m n : Meaning} (e : Parted T m n) {all : Meaning} {rest f cells : List ℕ} {passed : ℕ} (inv : Passing ask q T all rest cells passed) (ef : f ≡ take (17 * cell_rows m) rest) (o : Option ℕ) (eo : o ≡ q m (table_of f)) where
-    pub passing_below : (r : ℕ) → o ≡ Some r → passed + r < all.rows
+    passing_below : (r : ℕ) → o ≡ Some r → passed + r < all.rows
     passing_below r is = let s = rows_of_lem e in let k = inv.rows in let l = naming.below m f (naming.first e rest f ef inv.asked) o eo r is in omega arith
 
-    pub passing_here : (r : ℕ) → o ≡ Some r → Some (passed + r) ≡ q all (table_of cells)
+    passing_here : (r : ℕ) → o ≡ Some r → Some (passed + r) ≡ q all (table_of cells)
     passing_here r is = let s = drop (17 * cell_rows m) rest in
         sym (raised_first passed m.rows (q m (table_of f)) (q n (table_of s)) r (sym eo ∙ is)) ∙ ap (raised passed) (sym (naming.splits e rest f s ef refl)) ∙ inv.same
 
-    pub passing_next : o ≡ None → {s : List ℕ} → s ≡ drop (17 * cell_rows m) rest → (k : ℕ) → k ≡ passed + m.rows → Passing ask q n all s cells k
+    passing_next : o ≡ None → {s : List ℕ} → s ≡ drop (17 * cell_rows m) rest → (k : ℕ) → k ≡ passed + m.rows → Passing ask q n all s cells k
     passing_next is {s} es k ek =
         let l = rows_of_lem e in
         let j = inv.rows in
@@ -90,18 +97,59 @@ module _ {ask : Meaning → List ℕ → Type 0} {q : Meaning → Cells → Opti
           same = ap (λ i. raised i (q n (table_of s))) ek ∙ sym (raised_next passed m.rows (q m (table_of f)) (q n (table_of s)) (sym eo ∙ is)) ∙ ap (raised passed) (sym (naming.splits e rest f s ef es)) ∙ inv.same;
         }
 
+raised_none : (k : ℕ) (o : Option ℕ) → None ≡ raised k o → o ≡ None
+raised_none k None e = refl
+raised_none k (Some r) e = cc
+
+raised_some : (k y : ℕ) (o : Option ℕ) → Some y ≡ raised k o → (r : ℕ) × (o ≡ Some r) × (Some y ≡ Some (k + r))
+raised_some k y None e = cc
+raised_some k y (Some r) e = (r, refl, e)
+
+-- by `find_map` over the parts
+module _ {C L F : Type 0} (k : Chain C L) (l : Lot L) {ask : Meaning → List ℕ → Type 0} {q : Meaning → Cells → Option ℕ} (naming : Naming ask q) (g : Mut F (Part L × Unit {0}) (Option ℕ)) (f : F) (s : Parts C L k l)
+    {c : C} {b : List ℕ} (ec : s.chain ≡ c) (eb : s.rest.bytes.now ≡ b) (ez : s.passed ≡ 0) (whole : ask (k.meaning c) b)
+    (turn : (x : Part L) (r : Option ℕ) (h : F) → Called g f (x, tt) r h → (h ≡ f) × (r ≡ raised x.before (q (l.meaning x.lot) (table_of x.cells.bytes.now)))) where
+  abbrev left : Parts C L k l → Type 0
+  left u = Passing ask q (k.meaning u.chain) (k.meaning c) u.rest.bytes.now b u.passed
+
+  raised_zero : (o : Option ℕ) → raised 0 o ≡ o
+  raised_zero None = refl
+  raised_zero (Some r) = ap Some (omega arith)
+
+  left_all : left s
+  left_all = record {
+    asked = subst (ask (k.meaning s.chain)) (sym eb) (subst (λ x. ask (k.meaning x) b) (sym ec) whole);
+    rows = let e = ap (λ x. (k.meaning x).rows) ec in omega arith;
+    same = ap₂ (λ n o. raised n o) ez (ap₂ (λ x y. q (k.meaning x) (table_of y)) ec eb) ∙ raised_zero _;
+  }
+
+  left_next : (u w : Parts C L k l) (x : Part L) → left u → TakesPart k l u (Some x) w → Called g f (x, tt) None f → left w
+  left_next u w x j e d = passing_next naming e.two j e.front _ refl (raised_none x.before _ (turn x None f d).1) e.rest _ e.passed
+
+  pub named_can : ((x : Part L) → ask (l.meaning x.lot) x.cells.bytes.now → ((r : ℕ) → q (l.meaning x.lot) (table_of x.cells.bytes.now) ≡ Some r → x.before + r < (k.meaning c).rows) → Takes g f (x, tt)) → CallableWhile (TakesPart k l) g None s f
+  named_can asks = find_can (TakesPart k l) g f left left_all (λ x r h d. (turn x r h d).0) left_next
+      (λ u w x j e. asks x (naming.first e.two _ _ e.front j.asked) (λ r is. let below = passing_below naming e.two j e.front _ refl r is in let before = e.before in omega arith))
+
+  pub named : (u : Parts C L k l) (r : Option ℕ) → FindsMapped (TakesPart k l) g s f r u → SomeRun (TakesPart k l) s (λ p. MatchOption r (IsTrue p.whole × AllItemsGive p g f None) (λ y. (i : ℕ) × (i < p.len) × (p.len ≡ i + 1) × IsFirstToGive p g f (Some y) None i))
+      → r ≡ q (k.meaning c) (table_of b)
+  named u None ran runs = let o = found (TakesPart k l) g f left left_all (λ x r h d. (turn x r h d).0) left_next {u = u} None ran runs in passing_end naming o.2 o.3
+  named u (Some y) ran runs =
+      let o = found (TakesPart k l) g f left left_all (λ x r h d. (turn x r h d).0) left_next {u = u} (Some y) ran runs in
+      let z = raised_some o.2.before y _ (turn o.2 (Some y) f o.5).1 in
+      z.2 ∙ ap (λ n. Some (n + z.0)) o.4.before ∙ passing_here naming o.4.two o.3 o.4.front _ refl z.0 z.1
+
 -- ---- the power in one area and quarter
-pub record Netting (a t : ℕ) (T all : Meaning) (rest cells : List ℕ) (total : ℤ) : Type 0 where
+record Netting (a t : ℕ) (T all : Meaning) (rest cells : List ℕ) (total : ℤ) : Type 0 where
   pub ready : Ready T rest
   pub same : total +ℤ lot_net T (table_of rest) a t ≡ lot_net all (table_of cells) a t
 
-pub netting_next : {T m n : Meaning} → Parted T m n → {a t : ℕ} {all : Meaning} {rest f s cells : List ℕ} {total : ℤ} → Netting a t T all rest cells total → f ≡ take (17 * cell_rows m) rest → s ≡ drop (17 * cell_rows m) rest →
+netting_next : {T m n : Meaning} → Parted T m n → {a t : ℕ} {all : Meaning} {rest f s cells : List ℕ} {total : ℤ} → Netting a t T all rest cells total → f ≡ take (17 * cell_rows m) rest → s ≡ drop (17 * cell_rows m) rest →
     (v x : ℤ) → v ≡ lot_net m (table_of f) a t → x ≡ total +ℤ v → Netting a t n all s cells x
 netting_next e {a} {t} {all} {rest} {f} {s} inv ef es v x ev ex =
     let step = net_of_lem e rest f s ef es a t in let k = inv.same in record { ready = next_ready e es inv.ready; same = omega (arith, ints) }
 
 -- what has been summed is within the limit of all and of the rest
-pub netting_within : {a t : ℕ} {T all : Meaning} {rest cells : List ℕ} {total : ℤ} → Netting a t T all rest cells total → Duties T → Duties all → Ready all cells → a < 32 → t < 4 → nat_abs total ≤ 1638383616
+netting_within : {a t : ℕ} {T all : Meaning} {rest cells : List ℕ} {total : ℤ} → Netting a t T all rest cells total → Duties T → Duties all → Ready all cells → a < 32 → t < 4 → nat_abs total ≤ 1638383616
 netting_within {a} {t} {T} {all} {rest} {cells} inv dT da r ha ht =
     let x = net_limit T dT rest inv.ready a t ha ht in
     let y = net_limit all da cells r a t ha ht in
@@ -110,7 +158,7 @@ netting_within {a} {t} {T} {all} {rest} {cells} inv dT da r ha ht =
     let k = inv.same in
     omega (arith, ints)
 
-pub netting_end : {a t : ℕ} {T all : Meaning} {rest cells : List ℕ} {total : ℤ} → Netting a t T all rest cells total → T ≡ nothing → total ≡ lot_net all (table_of cells) a t
+netting_end : {a t : ℕ} {T all : Meaning} {rest cells : List ℕ} {total : ℤ} → Netting a t T all rest cells total → T ≡ nothing → total ≡ lot_net all (table_of cells) a t
 netting_end {a} {t} {T} {rest = rest} inv e =
     let z : lot_net T (table_of rest) a t ≡ pos 0 = ap (λ M. lot_net M (table_of rest) a t) e ∙ nothing_net (table_of rest) a t in
     let k = inv.same in
@@ -141,15 +189,15 @@ module _ {C L F : Type 0} (k : Chain C L) (l : Lot L) (a t : ℕ) (g : Mut F (Pa
   net_sum xs d = let e = sum_ends (TakesPart k l) g es ef netted netted_none netted_next xs d in netting_end e.2 e.3
 
 -- ---- the best surplus
-pub record Topping (p : Prices) (T all : Meaning) (total : ℤ) : Type 0 where
+record Topping (p : Prices) (T all : Meaning) (total : ℤ) : Type 0 where
   pub few : T.rows ≤ most_lot_rows
   pub same : total +ℤ T.best p ≡ all.best p
 
-pub topping_next : {T m n : Meaning} → Parted T m n → {p : Prices} {all : Meaning} {total : ℤ} → Topping p T all total → (v x : ℤ) → v ≡ m.best p → x ≡ total +ℤ v → Topping p n all x
+topping_next : {T m n : Meaning} → Parted T m n → {p : Prices} {all : Meaning} {total : ℤ} → Topping p T all total → (v x : ℤ) → v ≡ m.best p → x ≡ total +ℤ v → Topping p n all x
 topping_next e {p} inv v x ev ex =
     let step = best_of_lem e p in let s = rows_of_lem e in let k = inv.few in let j = inv.same in record { few = omega arith; same = omega (arith, ints) }
 
-pub topping_within : {p : Prices} {T all : Meaning} {total : ℤ} → Topping p T all total → Duties T → Duties all → Quoted p → Capped p → all.rows ≤ most_lot_rows → nat_abs total ≤ 81920000000000000
+topping_within : {p : Prices} {T all : Meaning} {total : ℤ} → Topping p T all total → Duties T → Duties all → Quoted p → Capped p → all.rows ≤ most_lot_rows → nat_abs total ≤ 81920000000000000
 topping_within {p} {T} {all} inv dT da quoted cap few =
     let x = best_low T dT inv.few p quoted in
     let y = best_low all da few p quoted in

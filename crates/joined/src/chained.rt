@@ -67,14 +67,11 @@ impl<C: Chain> Lot for Chained<C> {
         Links(self.0).fold(0, |total, lot| (total + lot.cell_row_count()).min(COUNTED))
     }
 
-    // A `for` here and in `broken_row`: the closure of a `find_map` would have to state again what the question asks.
     fn refused_row(&self, cells: Cells<'_>) -> Option<usize> {
-        for part in self.parts(cells) {
-            if let Some(refused) = part.lot.refused_row(part.cells) {
-                return Some(part.before + refused);
-            }
-        }
-        None
+        self.parts(cells).find_map(|part| {
+            let refused = part.lot.refused_row(part.cells)?;
+            Some(part.before + refused)
+        })
     }
 
     fn net(&self, cells: Cells<'_>, area: usize, quarter: usize) -> i64 {
@@ -98,11 +95,9 @@ impl<C: Chain> Lot for Chained<C> {
     }
 
     fn broken_row(&self, cells: Cells<'_>, prices: CappedPrices<'_>) -> Option<usize> {
-        for part in self.parts(cells) {
-            if let Some(broken) = part.lot.broken_row(part.cells, prices) {
-                return Some(part.before + broken);
-            }
-        }
-        None
+        self.parts(cells).find_map(|part| {
+            let broken = part.lot.broken_row(part.cells, prices)?;
+            Some(part.before + broken)
+        })
     }
 }
