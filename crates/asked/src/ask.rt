@@ -3,7 +3,7 @@ ghost use Rattle.std.specs.Result.{result_ok};
 ghost use Rattle.asked.specs.Asked.{refused_of, net_of, worth_of, amount_of, best_of, broken_of, Ceiling};
 ghost use Rattle.asked.specs.Asked.{refused_told, net_told, worth_told, amount_told, best_told, broken_told};
 
-use crate::may::{admitted, few, held, priced};
+use crate::may::{admitted, few, held, passed, priced};
 use crate::unasked::Unasked;
 use lot::lot::Lot;
 use lot::views::{Cells, Prices};
@@ -23,9 +23,7 @@ pub fn net<L: Lot>(lot: &L, cells: Cells<'_>, area: usize, quarter: usize) -> Re
     ensures told { result ≡ net_told (L.Lot.meaning lot.now) cells.entry.bytes.now area quarter }
 {
     admitted(lot, cells)?;
-    if area >= 32 || quarter >= 4 {
-        return Err(Unasked::NoPlace);
-    }
+    passed(area < 32 && quarter < 4, Unasked::NoPlace)?;
     Ok(lot.net(cells, area, quarter))
 }
 
@@ -35,9 +33,7 @@ pub fn worth<L: Lot>(lot: &L, cells: Cells<'_>, row: usize) -> Result<i64, Unask
     ensures told { result ≡ worth_told (L.Lot.meaning lot.now) cells.entry.bytes.now row }
 {
     admitted(lot, cells)?;
-    if row >= lot.row_count() {
-        return Err(Unasked::NoPlace);
-    }
+    passed(row < lot.row_count(), Unasked::NoPlace)?;
     Ok(lot.worth(cells, row))
 }
 
@@ -53,9 +49,7 @@ pub fn amount<L: Lot>(
 {
     admitted(lot, cells)?;
     let prices = priced(prices)?;
-    if row >= lot.row_count() {
-        return Err(Unasked::NoPlace);
-    }
+    passed(row < lot.row_count(), Unasked::NoPlace)?;
     Ok(lot.amount(cells, prices, row))
 }
 

@@ -6,7 +6,7 @@ use lot::lot::{Lot, MOST_LOT_ROWS};
 use lot::views::{CappedPrices, Cells, Prices, ROW_BYTES};
 
 // Nothing, or why a test fails.
-fn passed(test: bool, why: Unasked) -> Result<(), Unasked>
+pub(crate) fn passed(test: bool, why: Unasked) -> Result<(), Unasked>
     ensures { result ≡ passes test why }
 {
     if test { Ok(()) } else { Err(why) }

@@ -67,9 +67,8 @@ impl Bid {
         let [area, side, ..] = text else {
             return unreachable();
         };
-        let Ok(side) = Side::try_from(*side) else {
-            return Err(FieldFault::unreadable(is_area(*area)));
-        };
+        let placed = is_area(*area);
+        let side = Side::try_from(*side).map_err(|_unnamed| FieldFault::unreadable(placed))?;
         Bid::try_from(BidFields {
             area: *area,
             side,

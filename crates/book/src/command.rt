@@ -105,9 +105,7 @@ impl Command {
         let [byte, ..] = text else {
             return Err(ByteFault::Cut(offset));
         };
-        let Ok(command) = Command::try_from(*byte) else {
-            return Err(ByteFault::Unknown(offset));
-        };
+        let command = Command::try_from(*byte).map_err(|_unnamed| ByteFault::Unknown(offset))?;
         if text.len() < command.size() {
             return Err(ByteFault::Cut(offset));
         }

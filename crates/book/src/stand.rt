@@ -69,7 +69,7 @@ impl Stand {
         self.group.map_or(0, |group| group.due)
     }
 
-    // Room for a row more is asked at each call: the definitions build stands, and a ghost field would want its proof there.
+    // Room for a row more is asked at each call: definitions build stands, and could not with a ghost field (docs/DECISIONS.md).
     fn onward(self, row: &Row) -> Stand
         requires { (self.at + row_size row.now < 2 ^ 64) × (self.rows < 1024) }
         ensures { result ≡ onward self row.now }

@@ -68,9 +68,8 @@ impl Border {
         let [from, to, step, ..] = text else {
             return unreachable();
         };
-        let Ok(step) = Step::try_from(*step) else {
-            return Err(FieldFault::unreadable(border_placed(*from, *to)));
-        };
+        let placed = border_placed(*from, *to);
+        let step = Step::try_from(*step).map_err(|_unnamed| FieldFault::unreadable(placed))?;
         Border::try_from(BorderFields {
             from: *from,
             to: *to,

@@ -30,6 +30,7 @@ impl fmt::Display for Layer {
     }
 }
 
+// `Display` and `Error` are written out here and for each fault: a derived `Display` would not promise what it prints.
 // What a fault tells: its number (what is filed and looked up; the faults are enums), its layer, and where it was found.
 #[derive(Clone, Copy, PartialEq, Eq, Debug)]
 pub struct Told {
@@ -60,7 +61,8 @@ pub enum ByteFault {
     Unknown(usize),
 }
 
-// `tell` here and in each layer, and not `From`: the word is the archive's, and a fault of a row's fields takes the row too.
+// `tell` here and in each layer, and not `From`: a fault of a row's fields takes the row too, and so cannot be a `From`; one
+// word for all of them is plainer than two.
 impl ByteFault {
     pub fn tell(&self) -> Told
         ensures { result ≡ told_byte self.now }

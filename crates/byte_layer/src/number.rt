@@ -12,6 +12,7 @@ pub fn are_octets(text: &[u8])
     }
 }
 
+// An `impl` for each type of number stands written out below: an `impl` that a macro writes has no ghost items.
 // A number that `N` octets hold. `code` is the unsigned number that stands for it in them, and `of_code` goes back.
 pub trait Number<const N: usize>: Copy {
     ghost code: { Self → ℕ };

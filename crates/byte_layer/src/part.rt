@@ -21,7 +21,8 @@ pub trait Part<const K: usize>: Copy {
         ensures written { text.new ≡ placed text.old at (bytes self.now) };
 }
 
-// Each part's place stands in its line, here and in `write_four`: a loop would carry the place along, and be no plainer.
+// Each part's place stands in its line, here and in `write_four`: tried with `array::from_fn`, and its closure would have to
+// state again where each part lies.
 
 // Four parts that stand one behind the other.
 pub fn read_four<P: Part<K>, const K: usize>(text: &[u8], at: usize) -> [P; 4]

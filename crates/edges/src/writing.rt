@@ -4,7 +4,7 @@ use book::row::Row;
 use std::alloc::Global;
 use std::process::Abort;
 use std::test::Fail;
-use writer::state::{GroupUnderway, Membership, OpenBook};
+use writer::state::{Filed, GroupUnderway, Membership, OpenBook};
 
 // A book that is being written, with a group underway or none. Where it is let go, the group is struck.
 pub enum Writing {
@@ -23,18 +23,23 @@ impl Drop for Writing {
     }
 }
 
+fn opened(filed: Filed<OpenBook>) -> (Writing, usize) {
+    (Writing::Open(filed.next), filed.row)
+}
+
+fn begun(filed: Filed<GroupUnderway>) -> (Writing, usize) {
+    (Writing::Underway(filed.next), filed.row)
+}
+
 fn file_in(book: OpenBook, text: &mut [u8], row: Row) -> (Writing, Result<usize, Fault>) {
     let filed = match row {
-        Row::Bid(fields) => book.file(text, fields),
-        Row::Need(fields) => book.file(text, fields),
-        Row::Border(fields) => book.file(text, fields),
-        Row::Group(members) => match book.group(text, members) {
-            Ok(begun) => return (Writing::Underway(begun.next), Ok(begun.row)),
-            Err(refused) => Err(refused),
-        },
+        Row::Bid(fields) => book.file(text, fields).map(opened),
+        Row::Need(fields) => book.file(text, fields).map(opened),
+        Row::Border(fields) => book.file(text, fields).map(opened),
+        Row::Group(members) => book.group(text, members).map(begun),
     };
     match filed {
-        Ok(filed) => (Writing::Open(filed.next), Ok(filed.row)),
+        Ok((writing, row)) => (writing, Ok(row)),
         Err(refused) => (Writing::Open(refused.back), Err(told(refused.fault))),
     }
 }

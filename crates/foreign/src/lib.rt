@@ -13,10 +13,7 @@ use book::check::check;
 pub extern "C" fn jertsola_check_fault(text: &[u8]) -> u64
     ensures { result ≡ fault_number (checked text.now) }
 {
-    match check(text) {
-        Ok(_found) => 0,
-        Err(fault) => u64::from(fault.tell().number),
-    }
+    check(text).map_or_else(|fault| u64::from(fault.tell().number), |_found| 0)
 }
 
 // The place of the first fault, or the book's length where the text passes.
@@ -24,10 +21,7 @@ pub extern "C" fn jertsola_check_fault(text: &[u8]) -> u64
 pub extern "C" fn jertsola_check_place(text: &[u8]) -> usize
     ensures { result ≡ place_or_length (checked text.now) }
 {
-    match check(text) {
-        Ok(found) => found.length,
-        Err(fault) => fault.tell().place,
-    }
+    check(text).map_or_else(|fault| fault.tell().place, |found| found.length)
 }
 
 // The number of rows, or 0 where the text fails.
@@ -35,8 +29,5 @@ pub extern "C" fn jertsola_check_place(text: &[u8]) -> usize
 pub extern "C" fn jertsola_check_rows(text: &[u8]) -> usize
     ensures { result ≡ rows_found (checked text.now) }
 {
-    match check(text) {
-        Ok(found) => found.rows,
-        Err(_fault) => 0,
-    }
+    check(text).map_or(0, |found| found.rows)
 }

@@ -37,7 +37,7 @@ fn grouped(bids: &[Bid], size: GroupSize) -> Option<ExclusiveGroup>
 }
 
 impl ExclusiveGroup {
-    // None, and no error, which a reader and a writer tell and nobody would take here: it would be no plainer.
+    // An `Option`: a reader and a writer have told the reason before.
     // The group of these bids, or none where they are fewer than two, more than eight, or not of one area.
     pub fn of(bids: &[Bid]) -> Option<ExclusiveGroup>
         ensures { MatchOption result (may_group bids.now ≡ false) (λ g. (may_group bids.now ≡ true) × (take g.size.members g.members ≡ bids.now)) }

@@ -21,7 +21,7 @@ pub trait Chain: Copy {
     // It owes what a lot owes.
     ghost duties: { (x : Self) → Duties (meaning x) };
 
-    // Zero where no lot is left.
+    // For a caller that asks without taking: zero where no lot is left.
     fn left(&self) -> usize
         ensures { result ≡ left self.now };
 

@@ -69,6 +69,7 @@ impl Need {
         let [area, side, elastic, ..] = text else {
             return unreachable();
         };
+        // One fault for two bytes, and so no `map_err`.
         let (Ok(side), Ok(elasticity)) = (Side::try_from(*side), Elasticity::try_from(*elastic))
         else {
             return Err(FieldFault::unreadable(is_area(*area)));

@@ -5,7 +5,7 @@ use crate::order::Order;
 use lot::lot::Lot;
 use lot::views::{CappedPrices, Cells};
 
-// What an order answers to a question: a function that hands out a `dyn` lot is refused, and so is a closure that takes one.
+// What an order answers to a question. The check refuses a function that hands out a `dyn` lot, and a closure that takes one.
 macro_rules! asked {
     ($order:expr, $lot:ident => $question:expr) => {
         match $order {

@@ -9,7 +9,7 @@ use book::command::SEAL;
 use book::row::Row;
 
 impl<'a> SealedBook<'a> {
-    // No `map_or_else`: tried, and the closure would have to state again what the check found.
+    // No `map_or`: tried, and its closure would have to state again what the check found.
     // The book of a text, or, where the text fails its check, the book of no rows: a seal alone.
     #[tactic(auto, using(crate::proofs::Turns::written_lawful))]
     pub fn open(text: &'a [u8]) -> SealedBook<'a>

@@ -1,6 +1,8 @@
 use std::error::Error;
 use std::fmt;
 
+// What a byte names stands in `try_from` and in `from`: with discriminants `try_from` would still match each byte, and be no
+// plainer.
 // A byte of a text that names nothing where it stands: no command, no side, no elasticity, no step.
 #[derive(Clone, Copy, PartialEq, Eq, Debug)]
 pub struct Unnamed(pub u8);

@@ -93,7 +93,7 @@ took_row len at rows r q x h e =
 pub took : (len at rows : ℕ) (r q : Row) → Ok (Some q) ≡ admitted len at rows r → Took len at rows r q (admitted len at rows r)
 took len at rows r q e = took_row len at rows r q (admitted len at rows r) (sym e) (sym e)
 
-pub member_took : (len : ℕ) (g : GroupUnderway) (f : BidFields) (q : Row) (x : Result (Option Row) Told) → x ≡ admitted len g.length g.rows (kind.Bid f) → Ok (Some q) ≡ joined x g.group g.first f.area → Took len g.length g.rows (kind.Bid f) q (member_admitted len g f)
-member_took len g f q x h e =
-    let a : member_admitted len g f ≡ Ok (Some q) = ap (λ (y : Result (Option Row) Told). joined y g.group g.first f.area) (sym h) ∙ sym e in
-    took_row len g.length g.rows (kind.Bid f) q (member_admitted len g f) a (joins (admitted len g.length g.rows (kind.Bid f)) g.group g.first f.area (Some q) a).0
+pub member_took : (len : ℕ) (g : GroupUnderway) (f : BidFields) (q : Row) → Ok (Some q) ≡ member_admitted len g f → Took len g.book.length g.book.rows (kind.Bid f) q (member_admitted len g f)
+member_took len g f q e =
+    let x = admitted len g.book.length g.book.rows (kind.Bid f) in
+    took_row len g.book.length g.book.rows (kind.Bid f) q (member_admitted len g f) (sym e) (joins x g.before.rows g.first f.area (Some q) (sym e)).0

@@ -30,4 +30,4 @@ joined (Err e) group first area = Err e
 joined (Ok x) group first area = cond (same_area first area) (Ok x) (Err (fault 25 group))
 
 abbrev pub member_admitted : ℕ → GroupUnderway → BidFields → Result (Option Row) Told
-member_admitted len g f = joined (admitted len g.length g.rows (kind.Bid f)) g.group g.first f.area
+member_admitted len g f = joined (admitted len g.book.length g.book.rows (kind.Bid f)) g.before.rows g.first f.area

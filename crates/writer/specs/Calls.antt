@@ -32,20 +32,24 @@ pub record Unchanged {B X : Type 0} (b : B) (t : List ℕ) (x : Result X Told) (
 -- a group was begun
 pub record GroupBegun (b : OpenBook) (t : List ℕ) (members : ℕ) (p : Filed GroupUnderway) (u : List ℕ) : Type 0 where
   pub passed : admitted (length t) b.length b.rows (kind.Group members) ≡ Ok (Some (kind.Group members))
-  pub next : p.next ≡ record { length = b.length + 2; rows = b.rows + 1; due = members; group = b.rows; before = b.length; first = None }
+  pub next : p.next ≡ record { book = record { length = b.length + 2; rows = b.rows + 1 }; before = b; due = members; first = None }
   pub row : p.row ≡ b.rows
   pub text : u ≡ placed t b.length (0x45 ∷ members ∷ [])
 
+-- a book with one member more
+abbrev pub with_member : OpenBook → OpenBook
+with_member b = record { length = b.length + 51; rows = b.rows + 1 }
+
 -- what a member of an area makes of a group: the last one brings back the open book
 abbrev pub member_next : GroupUnderway → ℕ → Membership
-member_next g area = cond (nat_le g.due 1) (Last (record { length = g.length + 51; rows = g.rows + 1 })) (More (record { length = g.length + 51; rows = g.rows + 1; due = g.due - 1; group = g.group; before = g.before; first = Some (unwrap_or g.first area) }))
+member_next g area = cond (nat_le g.due 1) (Last (with_member g.book)) (More (record { book = with_member g.book; before = g.before; due = g.due - 1; first = Some (unwrap_or g.first area) }))
 
 -- a member was filed
 pub record MemberFiled (g : GroupUnderway) (t : List ℕ) (f : BidFields) (p : Filed Membership) (u : List ℕ) : Type 0 where
   pub passed : member_admitted (length t) g f ≡ Ok (Some (kind.Bid f))
   pub next : p.next ≡ member_next g f.area
-  pub row : p.row ≡ g.rows
-  pub text : u ≡ placed t g.length (row_bytes (kind.Bid f))
+  pub row : p.row ≡ g.book.rows
+  pub text : u ≡ placed t g.book.length (row_bytes (kind.Bid f))
 
 -- a book was sealed, and has n bytes
 pub record BookSealed (b : OpenBook) (t : List ℕ) (n : ℕ) (u : List ℕ) : Type 0 where

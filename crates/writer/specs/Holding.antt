@@ -20,7 +20,7 @@ areas_for None = Unknown
 areas_for (Some area) = Same area
 
 abbrev pub underway : GroupUnderway → Stand
-underway g = record { at = g.length; rows = g.rows; group = Some (record { due = g.due; row = g.group; areas = areas_for g.first }) }
+underway g = record { at = g.book.length; rows = g.book.rows; group = Some (record { due = g.due; row = g.before.rows; areas = areas_for g.first }) }
 
 -- t holds the rows rs, which the book b has so far
 abbrev pub Holds : List ℕ → OpenBook → List Row → Type 0
@@ -28,8 +28,8 @@ Holds t b rs = Begins t (opened b) rs
 
 -- t holds the rows rs and, behind them, the group's row and members so far, ms; more members are due
 pub record Owes (t : List ℕ) (g : GroupUnderway) (rs ms : List Row) : Type 0 where
-  pub before : Begins t (fresh g.before g.group) rs
-  pub since : g.before ≤ g.length
+  pub before : Begins t (opened g.before) rs
+  pub since : g.before.length ≤ g.book.length
   pub begins : Begins t (underway g) (rs ++ ms)
   pub due : 0 < g.due
 

@@ -2,10 +2,9 @@ ghost use Rattle.std.specs.Prelude.{◌≡◌, length, Some};
 ghost use Rattle.byte_layer.specs.Fault.{heard};
 ghost use Rattle.book.specs.Fault.{told_book};
 ghost use Rattle.writer.specs.Lawful.{row_in};
-ghost use Rattle.writer.specs.Admit.{roomed, admitted, joined};
+ghost use Rattle.writer.specs.Admit.{roomed, admitted};
 
 use crate::lawful::LawfulRow;
-use bid::group::same_area;
 use book::fault::{BookFault, MOST_ROWS};
 use book::row::Row;
 
@@ -49,20 +48,4 @@ impl Desk {
         self.room(row.size())?;
         Ok(lawful)
     }
-}
-
-// A row that was admitted as a member, or 25 where its area is not that of the first member.
-pub fn join(
-    admitted: Result<LawfulRow, BookFault>,
-    group: usize,
-    first: Option<u8>,
-    area: u8,
-) -> Result<LawfulRow, BookFault>
-    ensures { heard told_book (row_in result) ≡ joined (heard told_book (row_in admitted)) group first area }
-{
-    let lawful = admitted?;
-    if !same_area(first, area) {
-        return Err(BookFault::Mixed(group));
-    }
-    Ok(lawful)
 }

@@ -10,6 +10,7 @@ use border::fields::BorderFields;
 use need::fields::NeedFields;
 use units::limit::are_four;
 
+// `row` and no `From`: that the row stands by itself, and that its quarters are four, go with it.
 // The fields of a row that stands by itself: a bid's, a need's or a border's, lawful or not.
 pub trait Fields: Copy {
     ghost as_row: { Self → RowOf };

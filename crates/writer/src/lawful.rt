@@ -33,10 +33,10 @@ impl TryFrom<Row> for LawfulRow {
 
     fn try_from(row: Row) -> Result<LawfulRow, FieldFault> {
         match row {
-            Row::Bid(fields) => Ok(LawfulRow::Bid(Bid::try_from(fields)?)),
-            Row::Group(members) => Ok(LawfulRow::Group(GroupSize::try_from(members)?)),
-            Row::Need(fields) => Ok(LawfulRow::Need(Need::try_from(fields)?)),
-            Row::Border(fields) => Ok(LawfulRow::Border(Border::try_from(fields)?)),
+            Row::Bid(fields) => Bid::try_from(fields).map(LawfulRow::Bid),
+            Row::Group(members) => GroupSize::try_from(members).map(LawfulRow::Group),
+            Row::Need(fields) => Need::try_from(fields).map(LawfulRow::Need),
+            Row::Border(fields) => Border::try_from(fields).map(LawfulRow::Border),
         }
     }
 }
@@ -50,6 +50,7 @@ impl LawfulRow {
     }
 
     // That the bytes lie within the text is asked at the call: it is a fact of text, place and width together.
+    // Each arm writes its command byte: a conversion to the command would match the kinds once more, and be no plainer.
     // Writes the row's command into a text from a place on.
     pub fn write(&self, text: &mut [u8], at: usize)
         requires { at + row_size (row_of self.now) ≤ length text.old }

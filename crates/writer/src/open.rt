@@ -62,14 +62,15 @@ impl OpenBook {
         ensures outcome { MatchResult result (λ p. GroupBegun self text.old members p text.new) (λ p. Unchanged self text.old (admitted (length text.old) self.length self.rows (kind.Group members)) p text.new) }
         ensures holds { IfOk result (λ p. (rs : List Row) → Holds text.old self rs → Owes text.new p.next rs (kind.Group members ∷ [])) }
     {
-        let before = self.length;
+        let before = OpenBook {
+            length: self.length,
+            rows: self.rows,
+        };
         let filed = self.file_row(text, Row::Group(members))?;
         let group = GroupUnderway {
-            length: filed.next.length,
-            rows: filed.next.rows,
-            due: members,
-            group: filed.row,
+            book: filed.next,
             before,
+            due: members,
             first: None,
         };
         Ok(Filed {

@@ -10,13 +10,11 @@ pub struct OpenBook {
 
 // A group of which members are still due. It cannot be let go: its last member spends it, or a strike.
 pub struct GroupUnderway {
-    pub(crate) length: usize,
-    pub(crate) rows: usize,
+    // The book so far, with the group's row and the members that were filed, and the book before the group.
+    pub(crate) book: OpenBook,
+    pub(crate) before: OpenBook,
     // How many members are due.
     pub(crate) due: u8,
-    // The group's row, and the book's length before it.
-    pub(crate) group: usize,
-    pub(crate) before: usize,
     // The first member's area.
     pub(crate) first: Option<u8>,
 }

@@ -1,8 +1,7 @@
-use Rattle.std.proofs.Common.{◌≡◌, ◌*◌, ◌≤◌, Bool, true, false, length, nat_eq, Ok, Err, sym, refl, ap, ◌∙◌, arith}
+use Rattle.std.proofs.Common.{◌≡◌, ◌*◌, ◌≤◌, length, nat_eq, Ok, sym, ap, ◌∙◌, arith}
 use Rattle.std.proofs.lemmas.Bool.{leb-true}
 use Rattle.lot.specs.Meaning.{cell_rows}
 use Rattle.lot.specs.Laws.Sums.{count_le}
-use Rattle.asked.specs.declared.unasked.Unasked.{Unasked}
 use Rattle.asked.specs.declared.unasked.Unasked.TheVariants.{TooManyRows, OtherCells}
 use Rattle.asked.specs.Asked.{may_ask, few, passes}
 use Rattle.std.specs.Result.{result_and}
