@@ -16,7 +16,8 @@ pub struct Checked {
     pub rows: usize,
 }
 
-// A step may fail, and moves the text and the stand on: a `try_fold` would carry both, and be no plainer than this.
+// Text and stand are two values, and no reader of both, which each step would take apart again. A step may fail and moves
+// both on: a `try_fold` would carry them, and be no plainer.
 fn scan(text: &[u8]) -> Result<Checked, BookFault>
     ensures { heard told_book result ≡ checked text.now }
 {
