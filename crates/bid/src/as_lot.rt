@@ -96,7 +96,7 @@ impl Bid {
         ensures { TermsOf (bid_trade self.now.fields) result }
     {
         TradeTerms {
-            area: self.fields.area as usize,
+            area: usize::from(self.fields.area),
             direction: direction(self.fields.side),
             limits: self.limits(),
         }
@@ -129,7 +129,7 @@ impl Lot for Bid {
     }
 
     fn net(&self, cells: Cells<'_>, area: usize, quarter: usize) -> i64 {
-        let home = self.fields.area as usize;
+        let home = usize::from(self.fields.area);
         direction(self.fields.side).net(home, area, cells.cell(0, quarter))
     }
 

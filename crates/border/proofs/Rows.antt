@@ -32,9 +32,9 @@ module _ (x : Border) (cells prices : List ℕ) (ready : Ready (single (flowing 
   pub cells_within : (xs : List ℤ) → xs ≡ four (table_of cells 0) → AllWithin 99999 xs
   cells_within xs e = subst (AllWithin 99999) (sym e) (all_within (table_of cells 0) flow_within)
 
-  module _ (first second gaps : List ℤ) (ef : first ≡ four (table_of prices x.fields.from)) (es : second ≡ four (table_of prices x.fields.to)) (eg : gaps ≡ four (λ t. at second t -ℤ at first t)) where
+  module _ {m n : ℕ} (em : m ≡ x.fields.from) (en : n ≡ x.fields.to) (first second gaps : List ℤ) (ef : first ≡ four (table_of prices m)) (es : second ≡ four (table_of prices n)) (eg : gaps ≡ four (λ t. at second t -ℤ at first t)) where
     gaps_are : gaps ≡ four (gap_at x.fields (table_of prices))
-    gaps_are = eg ∙ ap₂ (λ u v. four (λ t. at u t -ℤ at v t)) es ef
+    gaps_are = eg ∙ ap₂ (λ u v. four (λ t. at u t -ℤ at v t)) (es ∙ ap (λ a. four (table_of prices a)) en) (ef ∙ ap (λ a. four (table_of prices a)) em)
 
     pub gaps_within : AllWithin 19999998 gaps
     gaps_within = subst (AllWithin 19999998) (sym gaps_are) (all_within (gap_at x.fields (table_of prices)) (small_gap x.fields (lawful_fields x) (table_of prices) priced.capped))

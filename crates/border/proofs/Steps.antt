@@ -17,6 +17,12 @@ use Rattle.border.specs.Laws.Flows.{Lawful, lawful, least_le, small_gap}
 pub lawful_fields : (x : Border) → Lawful x.fields
 lawful_fields x = lawful x.fields x.placed x.fine
 
+pub first_inside : (x : Border) {a : ℕ} → a ≡ x.fields.from → a < 32
+first_inside x {a} e = let h = (lawful_fields x).first in omega arith
+
+pub second_inside : (x : Border) {a : ℕ} → a ≡ x.fields.to → a < 32
+second_inside x {a} e = let h = (lawful_fields x).second in omega arith
+
 best_near : (m n : ℕ) (d : ℤ) → m ≤ most_quantity → n ≤ most_quantity → nat_abs d ≤ 1000000000 → Within 99999000000000 (int_max (pos m *ℤ d) (neg_ℤ (pos n *ℤ d)))
 best_near m n d h k l = record { size = greater (pos m *ℤ d) (pos n *ℤ d) (abs_mul_le (pos m) d most_quantity 1000000000 h l) (abs_mul_le (pos n) d most_quantity 1000000000 k l) }
   where
@@ -44,13 +50,19 @@ all_near g b [] h l = tt
 all_near g b (u ∷ us) h l = (h u l.0, all_near g b us h l.1)
 
 module _ (x : Border) (b : List ℕ) (priced : Priced b) where
-  module _ (t : ℕ) (l : t < 4) (first second : ℤ) (ef : first ≡ table_of b x.fields.from t) (es : second ≡ table_of b x.fields.to t) where
+  module _ {m n : ℕ} (em : m ≡ x.fields.from) (en : n ≡ x.fields.to) (t : ℕ) (l : t < 4) (first second : ℤ) (ef : first ≡ table_of b m t) (es : second ≡ table_of b n t) where
+    is_first : first ≡ table_of b x.fields.from t
+    is_first = ef ∙ ap (λ a. table_of b a t) em
+
+    is_second : second ≡ table_of b x.fields.to t
+    is_second = es ∙ ap (λ a. table_of b a t) en
+
     pub gap_fits : SFits w32 (to_z w32 (of_z w32 second) -ℤ to_z w32 (of_z w32 first))
-    gap_fits = difference_fits second first (table_of b x.fields.to t) (table_of b x.fields.from t) (priced.capped x.fields.to t (lawful_fields x).second l) (priced.capped x.fields.from t (lawful_fields x).first l) es ef
+    gap_fits = difference_fits second first (table_of b x.fields.to t) (table_of b x.fields.from t) (priced.capped x.fields.to t (lawful_fields x).second l) (priced.capped x.fields.from t (lawful_fields x).first l) is_second is_first
 
     pub quarter_is : ◌≡◌ {A = Stretch} (record { forward = forward_at x.fields t; back = back_at x.fields t; gap = to_z w32 (of_z w32 (to_z w32 (of_z w32 second) -ℤ to_z w32 (of_z w32 first))) }) (stretch x.fields (table_of b) (t, []))
     quarter_is = ap (λ (z : ℤ). record { forward = forward_at x.fields t; back = back_at x.fields t; gap = z })
-        (difference_is second first (table_of b x.fields.to t) (table_of b x.fields.from t) (priced.capped x.fields.to t (lawful_fields x).second l) (priced.capped x.fields.from t (lawful_fields x).first l) es ef)
+        (difference_is second first (table_of b x.fields.to t) (table_of b x.fields.from t) (priced.capped x.fields.to t (lawful_fields x).second l) (priced.capped x.fields.from t (lawful_fields x).first l) is_second is_first)
 
   -- the gap of a step, of at most four quarters
   pub gap_near : (k : Block) → AllByRecursion (λ t. t < 4) (k.0 ∷ k.1) → length k.1 ≤ 3 → (s : Stretch) → s ≡ stretch x.fields (table_of b) k → Within 1000000000 s.gap

@@ -1,7 +1,7 @@
 -- What a stretch earns, as numbers of 64 bits hold it.
 use Rattle.std.proofs.Common.{◌≡◌, ℕ, ◌*◌, ◌≤◌, ℤ, pos, ◌-ℤ◌, ◌*ℤ◌, neg_ℤ, nat_abs, sym, ap, ◌∙◌, subst, ap₂, arith, w32, w64, Fits, SFits, to_z, of_z}
 use Rattle.std.specs.Int.{int_max}
-use Rattle.std.proofs.lemmas.Int.{ints, clamps, to_z-of_z, to_z_pos}
+use Rattle.std.proofs.lemmas.Int.{ints, clamps, to_z-of_z}
 use Rattle.lot.specs.Laws.Ring.{abs_mul_le}
 use Rattle.border.specs.declared.stretch.Stretch.{Stretch}
 use Rattle.border.specs.Stretch.{stretch_best}
@@ -16,19 +16,7 @@ rent_within n d f g = abs_mul_le (pos n) d 4294967295 2147483648 (omega (arith, 
 back : (y : ℤ) → nat_abs y ≤ largest → to_z w64 (of_z w64 y) ≡ y
 back y h = omega (arith, ints)
 
-fits : (y : ℤ) → nat_abs y ≤ largest → SFits w64 y
-fits y h = omega (arith, ints)
-
 module _ (n : ℕ) (d : ℤ) (f : Fits w32 n) (g : SFits w32 d) where
-  wide : to_z w64 n *ℤ to_z w64 (of_z w64 (to_z w32 (of_z w32 d))) ≡ pos n *ℤ d
-  wide = ap₂ ◌*ℤ◌ (to_z_pos w64 n (omega arith)) (ap (λ z. to_z w64 (of_z w64 z)) (to_z-of_z w32 d g) ∙ to_z-of_z w64 d (omega (arith, ints)))
-
-  pub rent_fits : SFits w64 (to_z w64 n *ℤ to_z w64 (of_z w64 (to_z w32 (of_z w32 d))))
-  rent_fits = subst (SFits w64) (sym wide) (fits (pos n *ℤ d) (rent_within n d f g))
-
-  pub rent_is : to_z w64 (of_z w64 (to_z w64 n *ℤ to_z w64 (of_z w64 (to_z w32 (of_z w32 d))))) ≡ pos n *ℤ d
-  rent_is = to_z-of_z w64 _ rent_fits ∙ wide
-
   -- a call's rent
   passed : (y : ℤ) → y ≡ pos n *ℤ to_z w32 (of_z w32 d) → y ≡ pos n *ℤ d
   passed y e = e ∙ ap (λ z. pos n *ℤ z) (to_z-of_z w32 d g)

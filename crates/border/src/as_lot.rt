@@ -49,8 +49,8 @@ impl Lot for Border {
     // A unit that flows is bought at the first price and sold at the second.
     fn amount(&self, cells: Cells<'_>, prices: CappedPrices<'_>, row: usize) -> i64 {
         let flow = cells.row(0);
-        let first = prices.area(self.fields.from as usize);
-        let second = prices.area(self.fields.to as usize);
+        let first = prices.area(usize::from(self.fields.from));
+        let second = prices.area(usize::from(self.fields.to));
         let gaps = Direction::Sells.gains(&second, &first);
         dot(&flow, &gaps)
     }

@@ -43,9 +43,9 @@ impl Border {
     pub(crate) fn carried(&self, area: usize, flow: i32) -> i64
         ensures { result ≡ carried self.now.fields area flow }
     {
-        if area == self.fields.from as usize {
+        if area == usize::from(self.fields.from) {
             -i64::from(flow)
-        } else if area == self.fields.to as usize {
+        } else if area == usize::from(self.fields.to) {
             i64::from(flow)
         } else {
             0
@@ -58,8 +58,8 @@ impl Border {
         ensures { result ≡ stretch self.now.fields (table_of prices.entry.bytes.now) (quarter, []) }
     {
         let atcs = self.fields.quarters[quarter];
-        let first = prices.price(self.fields.from as usize, quarter);
-        let second = prices.price(self.fields.to as usize, quarter);
+        let first = prices.price(usize::from(self.fields.from), quarter);
+        let second = prices.price(usize::from(self.fields.to), quarter);
         Stretch {
             forward: atcs.forward,
             back: atcs.back,

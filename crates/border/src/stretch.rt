@@ -15,7 +15,7 @@ pub struct Stretch {
 fn rent(flow: u32, gap: i32) -> i64
     ensures { result ≡ pos flow *ℤ gap }
 {
-    flow as i64 * gap as i64
+    i64::from(flow) * i64::from(gap)
 }
 
 impl Stretch {

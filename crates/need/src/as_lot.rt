@@ -106,7 +106,7 @@ impl Need {
         ensures { TermsOf (need_trade self.now.fields) result }
     {
         TradeTerms {
-            area: self.fields.area as usize,
+            area: usize::from(self.fields.area),
             direction: direction(self.fields.side),
             limits: self.limits(),
         }
@@ -139,7 +139,7 @@ impl Lot for Need {
     }
 
     fn net(&self, cells: Cells<'_>, area: usize, quarter: usize) -> i64 {
-        let home = self.fields.area as usize;
+        let home = usize::from(self.fields.area);
         direction(self.fields.side).net(home, area, cells.cell(0, quarter))
     }
 

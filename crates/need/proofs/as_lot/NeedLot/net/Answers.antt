@@ -1,4 +1,4 @@
-use Rattle.std.proofs.Common.{◌≡◌, cond, not, eqb, pos, ap, ◌∙◌, ap₂, lit<, w32, w64, to_z, of_z, rules}
+use Rattle.std.proofs.Common.{◌≡◌, cond, not, eqb, pos, ap, ◌∙◌, lit<, w32, w64, to_z, of_z, rules}
 use Rattle.std.proofs.lemmas.Int.{to_z-of_z}
 use Rattle.units.specs.Side.{is_upward}
 use Rattle.lot.specs.Page.{table_of}
@@ -23,5 +23,5 @@ returns c =
     let same : to_z w32 (of_z w32 c.cell.result) ≡ table_of k 0 c.args.quarter = to_z-of_z w32 c.cell.result (search rules) ∙ c.cell.ensures in
     to_z-of_z w64 c.net.result (search rules)
     ∙ alone_net (needing f) k c.args.area c.args.quarter c.net.result
-    (c.net.ensures ∙ ap₂ (λ d z. cond (eqb c.args.area f.area) (turned (sells d) z) (pos 0)) c.direction.ensures same
+    (c.net.ensures ∙ (λ i. cond (eqb c.args.area (c.from-home.ensures i)) (turned (sells (c.direction.ensures i)) (same i)) (pos 0))
     ∙ ap (λ s. cond (eqb c.args.area f.area) (turned s (table_of k 0 c.args.quarter)) (pos 0)) (towards_sells (not (is_upward f.side))))
