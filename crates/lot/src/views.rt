@@ -74,6 +74,9 @@ impl<'a> Cells<'a> {
     }
 }
 
+// That the bytes are whole is asked at each call: a caller's prices may be any bytes, and whole ones within the cap are
+// `CappedPrices`.
+
 // The prices of a page, where they lie in its bytes: 17 bytes to each of the 32 areas.
 #[derive(Clone, Copy)]
 pub struct Prices<'a> {
@@ -104,7 +107,7 @@ impl<'a> Prices<'a> {
         self.area(area).iter().all(|price| is_price(*price))
     }
 
-    // None, and no error, which nobody would take: it would be no plainer.
+    // An `Option`: a caller tells one reason for all prices (asked).
     // The same prices, where they are those of the 32 areas, each within the cap.
     pub fn capped(self) -> Option<CappedPrices<'a>>
         ensures when { IsSome result ↔ Priced self.entry.bytes.now }
@@ -125,12 +128,23 @@ pub struct CappedPrices<'a> {
     pub ghost priced: { Priced bytes.now },
 }
 
+// The same prices, whatever they are.
+impl<'a> From<CappedPrices<'a>> for Prices<'a> {
+    ghost from_gives = { λ capped prices. prices.bytes.now ≡ capped.bytes.now };
+
+    fn from(capped: CappedPrices<'a>) -> Prices<'a> {
+        Prices {
+            bytes: capped.bytes,
+        }
+    }
+}
+
 impl<'a> CappedPrices<'a> {
     pub fn price(self, area: usize, quarter: usize) -> i32
         requires { (quarter < 4) × (area < 32) }
         ensures { result ≡ table_of self.entry.bytes.now area quarter }
     {
-        self.uncapped().price(area, quarter)
+        Prices::from(self).price(area, quarter)
     }
 
     // The four prices of an area.
@@ -138,13 +152,6 @@ impl<'a> CappedPrices<'a> {
         requires { area < 32 }
         ensures { result ≡ four (table_of self.entry.bytes.now area) }
     {
-        self.uncapped().area(area)
-    }
-
-    // The same prices, whatever they are.
-    fn uncapped(self) -> Prices<'a>
-        ensures { result.bytes.now ≡ self.entry.bytes.now }
-    {
-        Prices { bytes: self.bytes }
+        Prices::from(self).area(area)
     }
 }
