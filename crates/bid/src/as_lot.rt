@@ -129,8 +129,7 @@ impl Lot for Bid {
     }
 
     fn net(&self, cells: Cells<'_>, area: usize, quarter: usize) -> i64 {
-        let home = usize::from(self.fields.area);
-        direction(self.fields.side).net(home, area, cells.cell(0, quarter))
+        self.terms().net(cells.cell(0, quarter), area)
     }
 
     fn worth(&self, cells: Cells<'_>, _row: usize) -> i64 {

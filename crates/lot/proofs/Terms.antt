@@ -82,13 +82,16 @@ pub gains_within : (x : TradeTerms) (b : List ℕ) → Priced b → AllWithin 19
 gains_within x b p = all_within (gain (trade_of x) (table_of b)) (gain_within (trade_of x) x.fair.inside (each_within x.fair.priced) (table_of b) p.capped)
 
 -- ---- the terms of a trade T
-pub towards_sells : (s : Bool) → sells (towards s) ≡ s
+towards_sells : (s : Bool) → sells (towards s) ≡ s
 towards_sells true = refl
 towards_sells false = refl
 
 module _ (T : Trade) (x : TradeTerms) (is : TermsOf T x) where
   way : sells x.direction ≡ T.sells
   way = ap sells is.direction ∙ towards_sells T.sells
+
+  pub terms_net : (q : ℕ → ℤ) (a t : ℕ) → trade_net (trade_of x) q a t ≡ trade_net T q a t
+  terms_net q a t = λ i. trade_net (record { area = is.area i; sells = way i; limit = T.limit }) q a t
 
   pub terms_worth : (q : ℕ → ℤ) → trade_worth (trade_of x) q ≡ trade_worth T q
   terms_worth q = sum_same 4 (quarter_worth (trade_of x) q) (quarter_worth T q) (λ t l. ap₂ (λ s z. turned s (neg_ℤ (z *ℤ q t))) way (ap (λ ys. at ys t) is.limits ∙ four_at T.limit t l))

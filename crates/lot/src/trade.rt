@@ -78,7 +78,15 @@ pub struct TradeTerms {
 }
 
 impl TradeTerms {
-    ghost use Rattle.lot.specs.Direction.{trade_of};
+    ghost use Rattle.lot.specs.Direction.{sells, trade_of};
+
+    // The net of a quantity in an area.
+    pub fn net(&self, quantity: i32, area: usize) -> i64
+        requires { Within 99999 quantity }
+        ensures { result ≡ (if nat_eq area self.now.area then turned (sells self.now.direction) quantity else pos 0) }
+    {
+        self.direction.net(self.area, area, quantity)
+    }
 
     // What quantities are worth, in grains.
     pub fn worth(&self, quantities: &[i32; 4]) -> i64

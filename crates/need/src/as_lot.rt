@@ -139,8 +139,7 @@ impl Lot for Need {
     }
 
     fn net(&self, cells: Cells<'_>, area: usize, quarter: usize) -> i64 {
-        let home = usize::from(self.fields.area);
-        direction(self.fields.side).net(home, area, cells.cell(0, quarter))
+        self.terms().net(cells.cell(0, quarter), area)
     }
 
     fn worth(&self, cells: Cells<'_>, _row: usize) -> i64 {

@@ -1,12 +1,11 @@
-use Rattle.std.proofs.Common.{◌≡◌, cond, not, eqb, pos, ap, ◌∙◌, lit<, w32, w64, to_z, of_z, rules}
+use Rattle.std.proofs.Common.{◌≡◌, ap, ◌∙◌, lit<, w32, w64, to_z, of_z, rules}
 use Rattle.std.proofs.lemmas.Int.{to_z-of_z}
-use Rattle.units.specs.Side.{is_upward}
 use Rattle.lot.specs.Page.{table_of}
-use Rattle.lot.specs.Trade.{turned}
-use Rattle.lot.specs.Direction.{sells}
-use Rattle.lot.proofs.Terms.{towards_sells}
+use Rattle.lot.specs.Trade.{trade_net}
+use Rattle.lot.specs.Direction.{trade_of}
+use Rattle.lot.proofs.Terms.{terms_net}
 use Rattle.lot.proofs.Alone.{alone_long, alone_net, cell_small}
-use Rattle.need.specs.Needing.{needing}
+use Rattle.need.specs.Needing.{need_trade, needing}
 use Rattle.need.proofs.Trades.{cells_small}
 use Rattle.need.proofs.as_lot.NeedLot.net.Goals as goal
 
@@ -23,5 +22,6 @@ returns c =
     let same : to_z w32 (of_z w32 c.cell.result) ≡ table_of k 0 c.args.quarter = to_z-of_z w32 c.cell.result (search rules) ∙ c.cell.ensures in
     to_z-of_z w64 c.net.result (search rules)
     ∙ alone_net (needing f) k c.args.area c.args.quarter c.net.result
-    (c.net.ensures ∙ (λ i. cond (eqb c.args.area (c.from-home.ensures i)) (turned (sells (c.direction.ensures i)) (same i)) (pos 0))
-    ∙ ap (λ s. cond (eqb c.args.area f.area) (turned s (table_of k 0 c.args.quarter)) (pos 0)) (towards_sells (not (is_upward f.side))))
+    (c.net.ensures
+    ∙ ap (λ z. trade_net (trade_of c.terms.result) (λ _. z) c.args.area c.args.quarter) same
+    ∙ terms_net (need_trade f) c.terms.result c.terms.ensures (table_of k 0) c.args.area c.args.quarter)
