@@ -11,6 +11,7 @@ pub struct Stretch {
     pub gap: i32,
 }
 
+// `product` (lot) takes two i32: one function over both would take any i64, whose product need not fit, and ask a bound.
 // What a flow earns at a gap, in grains.
 fn rent(flow: u32, gap: i32) -> i64
     ensures { result ≡ pos flow *ℤ gap }
