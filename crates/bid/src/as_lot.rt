@@ -103,6 +103,7 @@ impl Bid {
     }
 }
 
+// A need answers six of the eight questions alike: one impl over both is refused, since it overlaps that of lent lots (`&L`).
 impl Lot for Bid {
     ghost meaning = { λ x. single (bidding x.fields) };
 
