@@ -2,8 +2,10 @@
 use Rattle.std.specs.List.{count_by, fold, range_with_len}
 use Rattle.std.proofs.lemmas.List.{map-id}
 use Rattle.std.proofs.lemmas.List.FromFn.{sum_by-map-range_with_len_more}
-use Rattle.std.proofs.Common.{zero, add-one, ◌≡◌, ℕ, suc, ◌+◌, ◌*◌, ◌<◌, ◌≤◌, min, Bool, cond, List, [], ◌∷◌, map, length, ℤ, pos, ◌≤ℤ◌, Some, None, Option, sym, refl, ap, ◌∙◌, subst, ap₂, arith}
+use Rattle.std.proofs.Common.{zero, add-one, ◌≡◌, ℕ, suc, ◌+◌, ◌*◌, ◌<◌, ◌≤◌, min, Bool, not, cond, List, [], ◌∷◌, map, length, ℤ, pos, ◌≤ℤ◌, Some, None, Option, sym, refl, ap, ◌∙◌, subst, ap₂, arith}
+use Rattle.std.specs.Bool.{then_some}
 use Rattle.std.specs.Int.{int_max}
+use Rattle.std.specs.Option.{MatchOption}
 use Rattle.std.proofs.lemmas.Int.{ints, clamps}
 use Rattle.lot.specs.Sum.{count}
 use Rattle.lot.specs.Meaning.{Meaning, Prices, cell_rows}
@@ -12,6 +14,7 @@ use Rattle.lot.specs.Join.{join, blank, together}
 use Rattle.lot.specs.Page.{table_of, Sized, Ready}
 use Rattle.lot.specs.Single.{at_most_one, largest, headed}
 use Rattle.lot.specs.Laws.Exclusives.{headed_cells, each_admitted}
+use Rattle.lot.proofs.Alone.{unless}
 use Rattle.bid.specs.declared.lawful.Bid.{Bid}
 use Rattle.group.specs.Group.{member_of, bid_meaning, grouping}
 use Rattle.group.specs.Laws.Groups.{members_owe, headed_is}
@@ -53,12 +56,13 @@ module _ (bs ms : List Bid) (e : ms ≡ bs) where
     pub answered : {A : Type 0} (f : Meaning → A) {r : A} → r ≡ f (rows_of ms) → r ≡ f (headed (map member_of bs))
     answered f h = h ∙ ap f same
 
-    -- a member that is named, and the group's own row
-    pub named_member : {o : Option ℕ} {r : ℕ} → o ≡ (rows_of ms).refused (table_of k) → o ≡ Some r → Some r ≡ (grouping bs).refused (table_of k)
-    named_member {o} {r} h is = ap (λ x. group_named x (at_most_one (length (map member_of bs)) (table_of k))) (sym is ∙ h ∙ ap (λ m. m.refused (table_of k)) same)
-
-    pub named_own : {o : Option ℕ} {t v : Bool} {n : ℕ} → o ≡ (rows_of ms).refused (table_of k) → o ≡ None → n ≡ length bs → t ≡ at_most_one n (table_of k) → t ≡ v → cond v None (Some 0) ≡ (grouping bs).refused (table_of k)
-    named_own {o} {t} {v} {n} h is en et ev = ap₂ group_named (sym is ∙ h ∙ ap (λ m. m.refused (table_of k)) same) (sym ev ∙ et ∙ ap (λ j. at_most_one j (table_of k)) (en ∙ sym (length_map bs)))
+    -- a member that is named, or the group's own row
+    pub named_or : (o : Option ℕ) {r : Option ℕ} {P : Type 0} → o ≡ (rows_of ms).refused (table_of k) → MatchOption o P (λ v. r ≡ Some v) → (P → r ≡ then_some {T = ℕ} (not (at_most_one (length bs) (table_of k))) 0) → r ≡ (grouping bs).refused (table_of k)
+    named_or o {r} {P} h m own = by o m ∙ ap₂ group_named (h ∙ ap (λ m. m.refused (table_of k)) same) (ap (λ j. at_most_one j (table_of k)) (sym (length_map bs)))
+      where
+        by : (o : Option ℕ) → MatchOption o P (λ v. r ≡ Some v) → r ≡ group_named o (at_most_one (length bs) (table_of k))
+        by None p = own p ∙ unless (at_most_one (length bs) (table_of k))
+        by (Some v) e = e
 
 -- ---- how many cell rows are taken
 pub taken_is : (n : ℕ) (p q : ℕ → Bool) → ((k : ℕ) → p k ≡ q k) → count_by p (range_with_len 0 n) ≡ count n q

@@ -68,10 +68,8 @@ impl Lot for ExclusiveGroup {
 
     // The members are tried in order, and then the group's own rule, at its row.
     fn refused_row(&self, cells: Cells<'_>) -> Option<usize> {
-        match self.rows().refused_row(cells) {
-            None if !at_most_one(cells, self.members().len()) => Some(0),
-            named => named,
-        }
+        let own = || (!at_most_one(cells, self.members().len())).then_some(0);
+        self.rows().refused_row(cells).or_else(own)
     }
 
     fn net(&self, cells: Cells<'_>, area: usize, quarter: usize) -> i64 {
