@@ -20,7 +20,7 @@ fn rent(flow: u32, gap: i32) -> i64
 }
 
 impl Stretch {
-    // That gaps are small is asked at the call: the definitions build stretches, and a ghost field wants its proof there.
+    // That gaps are small is asked at the call: definitions build stretches, and could not with a ghost field (docs/DECISIONS.md).
     // Two stretches as one.
     pub fn and(self, other: Stretch) -> Stretch
         requires { (Within 1000000000 self.gap) × (Within 1000000000 other.gap) }

@@ -21,7 +21,8 @@ impl OpenBook {
         OpenBook { length: 0, rows: 0 }
     }
 
-    // A refusal is matched here and in `seal`, since `map_err` would take the book into its closure.
+    // A refusal is matched here and in `seal`: a book cannot be copied, and `map_err` would take it into its closure, though it is
+    // needed where the call succeeds.
     // The row as the next of the book, written behind it, or what it is refused for.
     fn file_row(self, text: &mut [u8], row: Row) -> Result<Filed<OpenBook>, Refused<OpenBook>>
         ensures { MatchResult result (λ p. RowFiled self text.old row p text.new) (λ p. Unchanged self text.old (admitted (length text.old) self.length self.rows row) p text.new) }
