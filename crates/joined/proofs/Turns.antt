@@ -1,8 +1,8 @@
 -- Totals of an iterator's items: J holds of the iterator and of the total at the start, and each turn keeps it.
-use Rattle.std.proofs.Common.{◌≡◌, ℕ, ◌+◌, ◌<◌, List, [], ◌∷◌, ℤ, pos, ◌+ℤ◌, Some, None, Option, suc, FitsSigned, w64, fold, refl, subst, sym}
-use Rattle.std.specs.Fn.{Mut, Called, Takes}
+use Rattle.std.proofs.Common.{◌≡◌, ℕ, ◌+◌, ◌<◌, Bool, true, false, Bor, List, [], ◌∷◌, ℤ, pos, ◌+ℤ◌, Some, None, Option, suc, FitsSigned, w64, fold, refl, subst, sym}
+use Rattle.std.specs.Fn.{Mut, Called, Takes, CalledAt, TakesAt}
 use Rattle.std.specs.declared.iter.Map.{Map}
-use Rattle.std.specs.Iterator.{Yields, YieldsThen, Drains, CallableAtEachTurn, CallableOnAll, CallableWhile, FindsMapped}
+use Rattle.std.specs.Iterator.{Yields, YieldsThen, Drains, CallableAtEachTurn, CallableOnAll, CallableWhile, CallableWhileAt, FindsItem, FindsMapped}
 use Rattle.std.specs.Iterator.Adapters.{map_source, map_callee, map_steps}
 use Rattle.std.specs.Iterator.Runs.{EachRunFrom, SomeRun, AllItemsGive, IsFirstToGive}
 use Rattle.std.specs.List.{FoldsTo}
@@ -83,3 +83,27 @@ module _ {S A F B : Type 0} (steps : S → Option A → S → Type 0) (g : Mut F
           let j = along steps _ kept kept_next ran.0 s t.0 f ran.2 (start, refl) t.1 ran.4 in
           let k : Called g f (x, tt) (Some y) e.0 = subst (λ h. Called g h (x, tt) (Some y) e.0) j.1 e.1 in
           (t.0, u, x, j.0, t.2, subst (λ h. Called g f (x, tt) (Some y) h) (same x (Some y) e.0 k) k)
+
+-- what `find` finds by f, which the calls leave as it was: J holds of the iterator for as long as f answers false
+module _ {S A F : Type 0} (steps : S → Option A → S → Type 0) (g : Mut F (Bor A × Unit {0}) Bool) (f : F) (J : S → Type 0) {s : S} (start : J s) (same : (x : A) (r : Bool) (h : F) → CalledAt g f x r h → h ≡ f)
+    (next : (t u : S) (x : A) → J t → steps t (Some x) u → CalledAt g f x false f → J u) where
+  abbrev held : S → F → Type 0
+  held t h = J t × (h ≡ f)
+
+  held_next : (t u : S) (x : A) (h i : F) → held t h → steps t (Some x) u → CalledAt g h x false i → held u i
+  held_next t u x h i j e c =
+      let k : CalledAt g f x false i = subst (λ h. CalledAt g h x false i) j.1 c in
+      let o = same x false i k in
+      (next t u x j.0 e (subst (λ h. CalledAt g f x false h) o k), o)
+
+  pub first_can : ((t u : S) (x : A) → J t → steps t (Some x) u → TakesAt g f x) → CallableWhileAt steps g false s f
+  first_can ask = asked steps _ held held_next (start, refl) (λ t u x h j e. subst (λ h. TakesAt g h x) (sym j.1) (ask t u x j.0 e))
+
+  pub first : {u : S} (r : Option A) → FindsItem steps g s f r u → MatchOption r ((t : S) × J t × steps t None u) (λ x. (t : S) × J t × steps t (Some x) u × CalledAt g f x true f)
+  first None ran = let t = ran.2 in (t.0, (along steps _ held held_next ran.0 s t.0 f ran.1 (start, refl) t.1 ran.3).0, t.2)
+  first (Some x) ran =
+      let t = ran.2 in
+      let e = ran.4 in
+      let j = along steps _ held held_next ran.0 s t.0 f ran.1 (start, refl) t.1 ran.3 in
+      let k : CalledAt g f x true e.0 = subst (λ h. CalledAt g h x true e.0) j.1 e.1 in
+      (t.0, j.0, t.2, subst (λ h. CalledAt g f x true h) (same x true e.0 k) k)

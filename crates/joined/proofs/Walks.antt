@@ -1,10 +1,11 @@
 -- A walk over lots that are joined one after another: T is left of `all`, m is its first and n what comes after.
 -- Each invariant is a record so that its parameters are found from its type, and need not be written.
-use Rattle.std.proofs.Common.{◌≡◌, ℕ, ◌+◌, ◌-◌, ◌*◌, ◌<◌, ◌≤◌, min, List, take, drop, ℤ, pos, ◌+ℤ◌, nat_abs, Some, None, Option, FitsSigned, w64, fold, sym, refl, ap, ap₂, ◌∙◌, subst, arith}
+use Rattle.std.proofs.Common.{◌≡◌, ℕ, ◌+◌, ◌-◌, ◌*◌, ◌<◌, ◌≤◌, min, Bool, true, false, nat_lt, Bor, List, take, drop, ℤ, pos, ◌+ℤ◌, nat_abs, Some, None, Option, FitsSigned, w64, fold, sym, refl, ap, ap₂, ◌∙◌, subst, arith}
+use Rattle.std.proofs.lemmas.Bool.Decides.{nat_tests}
 use Rattle.std.proofs.lemmas.Int.{ints}
-use Rattle.std.specs.Fn.{Mut, Called, Takes}
+use Rattle.std.specs.Fn.{Mut, Called, Takes, CalledAt, TakesAt}
 use Rattle.std.specs.declared.iter.Map.{Map}
-use Rattle.std.specs.Iterator.{Drains, CallableOnAll, CallableWhile, FindsMapped}
+use Rattle.std.specs.Iterator.{Drains, CallableOnAll, CallableWhile, CallableWhileAt, FindsItem, FindsMapped}
 use Rattle.std.specs.Iterator.Adapters.{map_source, map_callee, map_steps}
 use Rattle.std.specs.Iterator.Runs.{EachRunFrom, SomeRun, AllItemsGive, IsFirstToGive}
 use Rattle.std.specs.Bool.{IsTrue}
@@ -16,13 +17,13 @@ use Rattle.lot.specs.Parts.{first_named}
 use Rattle.lot.specs.Join.{Parted, nothing}
 use Rattle.lot.specs.Page.{table_of, Ready}
 use Rattle.lot.proofs.Limits.{net_limit, best_low}
-use Rattle.joined.proofs.Halves.{Figure, Naming, nothing_net, rows_of_lem, best_of_lem, net_of_lem, first_ready, next_ready}
+use Rattle.joined.proofs.Halves.{Figure, Naming, worth_and_net, figures, nothing_net, rows_of_lem, best_of_lem, net_of_lem, first_ready, next_ready}
 use Rattle.lot.specs.declared.lot.Lot.{Ghosts as Lot}
 use Rattle.joined.specs.declared.chain.Chain.{Ghosts as Chain}
 use Rattle.joined.specs.declared.parts.Links.{Links}
 use Rattle.joined.specs.declared.parts.Part.{Part}
 use Rattle.joined.specs.declared.parts.Parts.{Parts}
-use Rattle.joined.proofs.Turns.{ended, sum_can, sum_fits, sum_ends, find_can, found}
+use Rattle.joined.proofs.Turns.{ended, sum_can, sum_fits, sum_ends, find_can, found, first_can, first}
 
 -- ---- what the iterators over a chain give (parts.rt)
 module _ {C L : Type 0} (k : Chain C L) (l : Lot L) where
@@ -254,3 +255,75 @@ module _ {T m n : Meaning} (e : Parted T m n) {A : Type 0} {w : Meaning → Cell
         inside = omega arith;
         same = ap (λ j. w n (table_of s) (left - j)) same ∙ figure.next e rest s es left (omega arith) ∙ inv.same;
       }
+
+-- a part that the row stands in
+pub record Stands {L : Type 0} (l : Lot L) (all : Meaning) (cells : List ℕ) (row : ℕ) (x : Part L) : Type 0 where
+  pub ready : Ready (l.meaning x.lot) x.cells.bytes.now
+  pub before : x.before ≤ row
+  pub inside : row - x.before < (l.meaning x.lot).rows
+  pub same : worth_and_net (l.meaning x.lot) (table_of x.cells.bytes.now) (row - x.before) ≡ worth_and_net all (table_of cells) row
+
+not_below : (x y : ℕ) → false ≡ nat_lt x y → y ≤ x
+not_below x y e = grind (arith, nat_tests)
+
+is_below : (x y : ℕ) → true ≡ nat_lt x y → x < y
+is_below x y e = grind (arith, nat_tests)
+
+-- by `find` over the parts
+module _ {C L F : Type 0} (k : Chain C L) (l : Lot L) (row : ℕ) (g : Mut F (Bor (Part L) × Unit {0}) Bool) (f : F) (s : Parts C L k l)
+    {c : C} {b : List ℕ} (ec : s.chain ≡ c) (eb : s.rest.bytes.now ≡ b) (ez : s.passed ≡ 0) (whole : Ready (k.meaning c) b) (inside : row < (k.meaning c).rows)
+    (turn : (x : Part L) (r : Bool) (h : F) → CalledAt g f x r h → (h ≡ f) × (r ≡ nat_lt (row - x.before) (min (l.meaning x.lot).rows 4097))) where
+  record Sought (u : Parts C L k l) : Type 0 where
+    pub before : u.passed ≤ row
+    pub seeks : Seeking worth_and_net (k.meaning u.chain) (k.meaning c) u.rest.bytes.now b (row - u.passed) row
+
+  sought_all : Sought s
+  sought_all =
+      let e = ap (λ x. (k.meaning x).rows) ec in
+      record {
+        before = omega arith;
+        seeks = record {
+          ready = subst (Ready (k.meaning s.chain)) (sym eb) (subst (λ x. Ready (k.meaning x) b) (sym ec) whole);
+          inside = omega arith;
+          same = ap₂ (λ x y. worth_and_net (k.meaning x) (table_of y) (row - s.passed)) ec eb ∙ ap (worth_and_net (k.meaning c) (table_of b)) (omega arith);
+        };
+      }
+
+  sought_next : (u w : Parts C L k l) (x : Part L) → Sought u → TakesPart k l u (Some x) w → CalledAt g f x false f → Sought w
+  sought_next u w x j e d =
+      let before = e.before in
+      let passed = e.passed in
+      let from = j.before in
+      let late = not_below _ _ (turn x false f d).1 in
+      let few = j.seeks.ready.sized.few in
+      let rows = rows_of_lem e.two in
+      record {
+        before = omega arith;
+        seeks = subst (λ i. Seeking worth_and_net (k.meaning w.chain) (k.meaning c) w.rest.bytes.now b i row) (omega arith) (seeking_next e.two j.seeks _ refl figures e.rest (omega arith));
+      }
+
+  pub standing_can : ((x : Part L) → x.before ≤ row → TakesAt g f x) → CallableWhileAt (TakesPart k l) g false s f
+  standing_can asks = first_can (TakesPart k l) g f Sought sought_all (λ x r h d. (turn x r h d).0) sought_next
+      (λ u w x j e. asks x (let before = e.before in let from = j.before in omega arith))
+
+  standing : (u : Parts C L k l) (o : Option (Part L)) → FindsItem (TakesPart k l) g s f o u → MatchOption o ⊥ (Stands l (k.meaning c) b row)
+  standing u None ran =
+      let o = first (TakesPart k l) g f Sought sought_all (λ x r h d. (turn x r h d).0) sought_next {u = u} None ran in
+      let z = ap (λ M. M.rows) o.2 in
+      let i = o.1.seeks.inside in
+      omega arith
+  standing u (Some x) ran =
+      let o = first (TakesPart k l) g f Sought sought_all (λ x r h d. (turn x r h d).0) sought_next {u = u} (Some x) ran in
+      let e = o.2 in
+      let before = e.before in
+      let from = o.1.before in
+      let here = is_below _ _ (turn x true f o.3).1 in
+      record {
+        ready = first_ready e.two e.front o.1.seeks.ready;
+        before = omega arith;
+        inside = omega arith;
+        same = ap (λ i. worth_and_net (l.meaning x.lot) (table_of x.cells.bytes.now) (row - i)) before ∙ seeking_here e.two o.1.seeks _ refl figures e.front (omega arith);
+      }
+
+  pub stands : (u : Parts C L k l) {o p : Option (Part L)} → FindsItem (TakesPart k l) g s f o u → o ≡ p → MatchOption p ⊥ (Stands l (k.meaning c) b row)
+  stands u {o} ran is = subst (λ p. MatchOption p ⊥ (Stands l (k.meaning c) b row)) is (standing u o ran)
