@@ -1,6 +1,7 @@
 -- Two lots as one: T is m, and then n. What m and n answer on their own parts of the cells, T answers on all of them.
 -- Parted is a record so that T, m and n are found from its type, and need not be written.
 use Rattle.std.proofs.Common.{◌≡◌, ℕ, ◌+◌, ◌-◌, ◌*◌, ◌<◌, ◌≤◌, min, List, ◌∷◌, length, take, drop, ℤ, pos, ◌+ℤ◌, Some, None, Option, sym, refl, ap, ◌∙◌, subst, ap₂, arith}
+use Rattle.std.specs.Option.{option_map, MatchOption}
 use Rattle.lot.specs.Sum.{sum, count}
 use Rattle.lot.specs.Meaning.{Meaning, Cells, Prices, Quoted, cell_rows, lot_net, money, amount}
 use Rattle.lot.specs.Duties.{most_lot_rows}
@@ -141,22 +142,13 @@ breaks p quoted = record {
 }
 
 -- the row that one of two lots names
-module _ {ask : Meaning → List ℕ → Type 0} {q : Meaning → Cells → Option ℕ} (naming : Naming ask q) {T m n : Meaning} (e : Parted T m n) (b f : List ℕ) (ef : f ≡ take (17 * cell_rows m) b) (o : Option ℕ) (eo : o ≡ q m (table_of f)) where
-  pub named_first : (r : ℕ) → o ≡ Some r → Some r ≡ q T (table_of b)
-  named_first r is = let s = drop (17 * cell_rows m) b in
-      ap (λ x. first_named m.rows x (q n (table_of s))) (sym is ∙ eo) ∙ sym (naming.splits e b f s ef refl)
+module _ {ask : Meaning → List ℕ → Type 0} {q : Meaning → Cells → Option ℕ} (naming : Naming ask q) {T m n : Meaning} (e : Parted T m n) (b s : List ℕ) (es : s ≡ drop (17 * cell_rows m) b) (asked : ask T b) {l : ℕ} (el : l ≡ min m.rows 4097) where
+  pub named_below : (r : ℕ) → q n (table_of s) ≡ Some r → l + r < 4097
+  named_below r is = let k = rows_of_lem e in let few = (naming.sized T b asked).few in let h = naming.below n s (naming.next e b s es asked) _ refl r is in omega arith
 
-  module _ (none : o ≡ None) (s : List ℕ) (es : s ≡ drop (17 * cell_rows m) b) (u : Option ℕ) (eu : u ≡ q n (table_of s)) where
-    named_after : first_named m.rows None u ≡ q T (table_of b)
-    named_after = ap₂ (first_named m.rows) (sym none ∙ eo) eu ∙ sym (naming.splits e b f s ef es)
-
-    pub named_neither : u ≡ None → None ≡ q T (table_of b)
-    named_neither is = ap (first_named m.rows None) (sym is) ∙ named_after
-
-    module _ (asked : ask T b) (r : ℕ) (is : u ≡ Some r) where
-      pub named_below : m.rows + r < T.rows
-      named_below = let k = rows_of_lem e in let l = naming.below n s (naming.next e b s es asked) u eu r is in omega arith
-
-      pub named_second : (l : ℕ) → l ≡ min m.rows 4097 → Some (l + r) ≡ q T (table_of b)
-      named_second l el = let k = rows_of_lem e in let few = (naming.sized T b asked).few in
-          ap (λ x. Some (x + r)) (omega arith) ∙ ap (first_named m.rows None) (sym is) ∙ named_after
+  pub named_or : (f : List ℕ) → f ≡ take (17 * cell_rows m) b → (o : Option ℕ) {r : Option ℕ} {P : Type 0} → o ≡ q m (table_of f) → MatchOption o P (λ v. r ≡ Some v) → (P → r ≡ option_map (λ y. l + y) (q n (table_of s))) → r ≡ q T (table_of b)
+  named_or f ef o {r} {P} eo given second = by o given ∙ ap (λ x. first_named m.rows x (q n (table_of s))) eo ∙ sym (naming.splits e b f s ef es)
+    where
+      by : (o : Option ℕ) → MatchOption o P (λ v. r ≡ Some v) → r ≡ first_named m.rows o (q n (table_of s))
+      by None p = second p ∙ ap (λ k. option_map (λ y. k + y) (q n (table_of s))) (let k = rows_of_lem e in let few = (naming.sized T b asked).few in omega arith)
+      by (Some v) e = e

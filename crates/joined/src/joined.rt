@@ -54,12 +54,11 @@ impl<A: Lot, B: Lot> Lot for Joined<A, B> {
     }
 
     fn refused_row(&self, cells: Cells<'_>) -> Option<usize> {
-        // No `or_else`, here and in `broken_row`: tried, and its closure would have to state again what the question asks.
-        if let Some(refused) = self.0.refused_row(front_part(&self.0, cells)) {
-            return Some(refused);
-        }
-        let refused = self.1.refused_row(rest_part(&self.0, cells))?;
-        Some(self.0.row_count() + refused)
+        let front = front_part(&self.0, cells);
+        let rest = rest_part(&self.0, cells);
+        let rows = self.0.row_count();
+        let second = || Some(rows + self.1.refused_row(rest)?);
+        self.0.refused_row(front).or_else(second)
     }
 
     fn net(&self, cells: Cells<'_>, area: usize, quarter: usize) -> i64 {
@@ -90,10 +89,10 @@ impl<A: Lot, B: Lot> Lot for Joined<A, B> {
     }
 
     fn broken_row(&self, cells: Cells<'_>, prices: CappedPrices<'_>) -> Option<usize> {
-        if let Some(broken) = self.0.broken_row(front_part(&self.0, cells), prices) {
-            return Some(broken);
-        }
-        let broken = self.1.broken_row(rest_part(&self.0, cells), prices)?;
-        Some(self.0.row_count() + broken)
+        let front = front_part(&self.0, cells);
+        let rest = rest_part(&self.0, cells);
+        let rows = self.0.row_count();
+        let second = || Some(rows + self.1.broken_row(rest, prices)?);
+        self.0.broken_row(front, prices).or_else(second)
     }
 }

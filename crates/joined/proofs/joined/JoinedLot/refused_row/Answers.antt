@@ -1,30 +1,21 @@
-use Rattle.std.proofs.Common.{◌∙◌, arith}
-use Rattle.joined.proofs.Halves.{both, asks, first_sized, next_sized, refusals, named_first, named_neither, named_below, named_second}
+use Rattle.std.proofs.Common.{rules}
+use Rattle.joined.proofs.Halves.{both, asks, first_sized, next_sized, refusals, named_below, named_or}
 use Rattle.joined.proofs.joined.JoinedLot.refused_row.Goals as goal
 
-pub front_part-requires : goal.front_part-requires
-front_part-requires g c = asks (both g.A.Lot g.B.Lot c.args.self.now.0 c.args.self.now.1) c.requires
+pub front_part-front-requires : goal.front_part-front-requires
+front_part-front-requires g c = asks (both g.A.Lot g.B.Lot c.args.self.now.0 c.args.self.now.1) c.requires
 
 pub refused_row-requires : goal.refused_row-requires
-refused_row-requires g c = first_sized (both g.A.Lot g.B.Lot c.args.self.now.0 c.args.self.now.1) c.front_part.ensures c.requires
+refused_row-requires g c = first_sized (both g.A.Lot g.B.Lot c.args.self.now.0 c.args.self.now.1) c.front_part-front.ensures c.requires
 
-pub returns-in-Some : goal.returns-in-Some
-returns-in-Some g c = named_first refusals (both g.A.Lot g.B.Lot c.args.self.now.0 c.args.self.now.1) c.args.cells.bytes.now _ c.front_part.ensures _ c.refused_row.ensures _ c.in-Some.is
+pub rest_part-rest-requires : goal.rest_part-rest-requires
+rest_part-rest-requires g c = asks (both g.A.Lot g.B.Lot c.args.self.now.0 c.args.self.now.1) c.requires
 
-pub rest_part-requires : goal.rest_part-requires
-rest_part-requires g c = asks (both g.A.Lot g.B.Lot c.args.self.now.0 c.args.self.now.1) c.requires
-
-pub refused_row-requires-2 : goal.refused_row-requires-2
-refused_row-requires-2 g c = next_sized (both g.A.Lot g.B.Lot c.args.self.now.0 c.args.self.now.1) c.rest_part.ensures c.requires
-
-pub overflow_add-result : goal.overflow_add-result
-overflow_add-result g c =
-    let below = named_below refusals (both g.A.Lot g.B.Lot c.args.self.now.0 c.args.self.now.1) c.args.cells.bytes.now _ c.front_part.ensures _ c.refused_row.ensures c.in_default.is _ c.rest_part.ensures _ c.refused_row-2.ensures c.requires _ c.in_ok-refused.was in
-    let few = c.requires.few in
-    omega arith
+pub or_else-requires : goal.or_else-requires
+or_else-requires g c =
+    let sized = next_sized (both g.A.Lot g.B.Lot c.args.self.now.0 c.args.self.now.1) c.rest_part-rest.ensures c.requires in
+    let below = named_below refusals (both g.A.Lot g.B.Lot c.args.self.now.0 c.args.self.now.1) c.args.cells.bytes.now _ c.rest_part-rest.ensures c.requires c.row_count-rows.ensures in
+    search rules
 
 pub returns : goal.returns
-returns g c = named_second refusals (both g.A.Lot g.B.Lot c.args.self.now.0 c.args.self.now.1) c.args.cells.bytes.now _ c.front_part.ensures _ c.refused_row.ensures c.in_default.is _ c.rest_part.ensures _ c.refused_row-2.ensures c.requires _ c.in_ok-refused.was _ c.row_count.ensures
-
-pub returns-in_err-refused : goal.returns-in_err-refused
-returns-in_err-refused g c = c.from_residual.ensures ∙ named_neither refusals (both g.A.Lot g.B.Lot c.args.self.now.0 c.args.self.now.1) c.args.cells.bytes.now _ c.front_part.ensures _ c.refused_row.ensures c.in_default.is _ c.rest_part.ensures _ c.refused_row-2.ensures c.in_err-refused.was
+returns g c = named_or refusals (both g.A.Lot g.B.Lot c.args.self.now.0 c.args.self.now.1) c.args.cells.bytes.now _ c.rest_part-rest.ensures c.requires c.row_count-rows.ensures _ c.front_part-front.ensures c.refused_row.result c.refused_row.ensures c.or_else.ensures (λ p. search rules)
