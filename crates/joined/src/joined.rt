@@ -14,6 +14,7 @@ pub const COUNTED: usize = MOST_LOT_ROWS + 1;
 #[derive(Clone, Copy, Drop)]
 pub struct Joined<A, B>(pub A, pub B);
 
+// A view each, and no pair of both: `worth` and `amount` take one alone.
 // The cells of the first of two lots.
 pub fn front_part<'a, L: Lot>(first: &L, cells: Cells<'a>) -> Cells<'a>
     requires few { (L.Lot.meaning first.now).rows ≤ most_lot_rows }
