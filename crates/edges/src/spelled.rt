@@ -20,7 +20,7 @@ pub(crate) fn side_byte(side: Side) -> u8 {
 }
 
 // Bytes, and numbers of four bytes each behind them, the highest byte first.
-fn spell(text: &mut Vec<u8>, front: &[u8], numbers: &[u32]) -> Result<(), AllocError> {
+pub(crate) fn spell(text: &mut Vec<u8>, front: &[u8], numbers: &[u32]) -> Result<(), AllocError> {
     text.extend_from_slice(front)?;
     for number in numbers {
         text.extend_from_slice(&number.to_be_bytes())?;
