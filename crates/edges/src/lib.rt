@@ -13,6 +13,8 @@ mod numbers;
 #[cfg(test)]
 mod opened;
 #[cfg(test)]
+mod pages;
+#[cfg(test)]
 mod rules;
 #[cfg(test)]
 mod sample;
