@@ -1,0 +1,2 @@
+pub mod Payment
+pub mod Statement

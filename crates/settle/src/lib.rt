@@ -1,0 +1,4 @@
+#![tactic(auto)]
+
+pub mod payment;
+pub mod statement;
