@@ -15,6 +15,8 @@ mod opened;
 #[cfg(test)]
 mod pages;
 #[cfg(test)]
+mod payments;
+#[cfg(test)]
 mod rules;
 #[cfg(test)]
 mod sample;
