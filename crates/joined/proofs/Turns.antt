@@ -47,22 +47,33 @@ module _ {S A F : Type 0} (steps : S → Option A → S → Type 0) (g : Mut F (
   pub sum_ends : (xs : List ℤ) → Drains (map_steps steps g) m xs → (t : S) × (u : S) × J t (fold ◌+ℤ◌ (pos 0) xs) × steps t None u
   sum_ends xs d = (map_source d.1.0, map_source d.0, summed xs m d.1.0 (pos 0) ef began d.1.1, d.1.2.0)
 
--- what `find_map` finds by f, which the calls leave as it was: J holds of the iterator for as long as f answers `None`
-module _ {S A F B : Type 0} (steps : S → Option A → S → Type 0) (g : Mut F (A × Unit {0}) (Option B)) (f : F) (J : S → Type 0) {s : S} (start : J s) (same : (x : A) (r : Option B) (h : F) → Called g f (x, tt) r h → h ≡ f)
-    (next : (t u : S) (x : A) → J t → steps t (Some x) u → Called g f (x, tt) None f → J u) where
+-- J holds of the iterator for as long as calls C leave f as it was
+module _ {S A F : Type 0} (steps : S → Option A → S → Type 0) (C : F → A → F → Type 0) (f : F) (J : S → Type 0) (same : (x : A) (h : F) → C f x h → h ≡ f) (next : (t u : S) (x : A) → J t → steps t (Some x) u → C f x f → J u) where
   abbrev kept : S → F → Type 0
   kept t h = J t × (h ≡ f)
 
-  kept_next : (t u : S) (x : A) (h i : F) → kept t h → steps t (Some x) u → Called g h (x, tt) None i → kept u i
+  kept_next : (t u : S) (x : A) (h i : F) → kept t h → steps t (Some x) u → C h x i → kept u i
   kept_next t u x h i j e c =
-      let k : Called g f (x, tt) None i = subst (λ h. Called g h (x, tt) None i) j.1 c in
-      let o = same x None i k in
-      (next t u x j.0 e (subst (λ h. Called g f (x, tt) None h) o k), o)
+      let k : C f x i = subst (λ h. C h x i) j.1 c in
+      let o = same x i k in
+      (next t u x j.0 e (subst (λ h. C f x h) o k), o)
+
+  pub kept_can : {T : F → A → Type 0} {s : S} → J s → ((t u : S) (x : A) → J t → steps t (Some x) u → T f x) → CallableAtEachTurn steps C T s f
+  kept_can {T} start ask = asked steps C kept kept_next (start, refl) (λ t u x h j e. subst (λ h. T h x) (sym j.1) (ask t u x j.0 e))
+
+  pub kept_along : (xs : List A) (s t : S) (h : F) → J s → Yields steps s xs t → FoldsTo C f xs h → kept t h
+  kept_along xs s t h start y c = along steps C kept kept_next xs s t f h (start, refl) y c
+
+-- what `find_map` finds by f, which the calls leave as it was: J holds of the iterator for as long as f answers `None`
+module _ {S A F B : Type 0} (steps : S → Option A → S → Type 0) (g : Mut F (A × Unit {0}) (Option B)) (f : F) (J : S → Type 0) {s : S} (start : J s) (same : (x : A) (r : Option B) (h : F) → Called g f (x, tt) r h → h ≡ f)
+    (next : (t u : S) (x : A) → J t → steps t (Some x) u → Called g f (x, tt) None f → J u) where
+  abbrev missed : F → A → F → Type 0
+  missed p x q = Called g p (x, tt) None q
 
   pub find_can : ((t u : S) (x : A) → J t → steps t (Some x) u → Takes g f (x, tt)) → CallableWhile steps g None s f
-  find_can ask = asked steps _ kept kept_next (start, refl) (λ t u x h j e. subst (λ h. Takes g h (x, tt)) (sym j.1) (ask t u x j.0 e))
+  find_can ask = kept_can steps missed f J (λ x h. same x None h) next start ask
 
-  each_none : (xs : List A) → Everywhere xs (λ x. Called g f (x, tt) None f) → FoldsTo (λ p x q. Called g p (x, tt) None q) f xs f
+  each_none : (xs : List A) → Everywhere xs (λ x. Called g f (x, tt) None f) → FoldsTo missed f xs f
   each_none [] e = refl
   each_none (x ∷ xs) e = (f, e 0, each_none xs (λ k. e (suc k)))
 
@@ -74,36 +85,30 @@ module _ {S A F B : Type 0} (steps : S → Option A → S → Type 0) (g : Mut F
       let all = each_of p _ (runs.2.1 (λ a r h c. same a.0 r h c)) in
       let y = subst (λ k. Yields steps k p.items d.0) runs.1 d.1 in
       let n = d.2 runs.2.0 in
-      (d.0, n.0, (along steps _ kept kept_next p.items s d.0 f f (start, refl) y (each_none p.items all)).0, n.1)
+      (d.0, n.0, (kept_along steps missed f J (λ x h. same x None h) next p.items s d.0 f start y (each_none p.items all)).0, n.1)
   found {u} (Some y) ran runs = by ran.1 ran.3 ran.5
     where
       by : (o : Option A) → YieldsThen steps s ran.0 o u → MatchOption o (Some y ≡ None) (λ x. (h : F) × Called g ran.2 (x, tt) (Some y) h) → (t : S) × (u : S) × (x : A) × J t × steps t (Some x) u × Called g f (x, tt) (Some y) f
       by None t e = cc
       by (Some x) t e =
-          let j = along steps _ kept kept_next ran.0 s t.0 f ran.2 (start, refl) t.1 ran.4 in
+          let j = kept_along steps missed f J (λ x h. same x None h) next ran.0 s t.0 ran.2 start t.1 ran.4 in
           let k : Called g f (x, tt) (Some y) e.0 = subst (λ h. Called g h (x, tt) (Some y) e.0) j.1 e.1 in
           (t.0, u, x, j.0, t.2, subst (λ h. Called g f (x, tt) (Some y) h) (same x (Some y) e.0 k) k)
 
 -- what `find` finds by f, which the calls leave as it was: J holds of the iterator for as long as f answers false
 module _ {S A F : Type 0} (steps : S → Option A → S → Type 0) (g : Mut F (Bor A × Unit {0}) Bool) (f : F) (J : S → Type 0) {s : S} (start : J s) (same : (x : A) (r : Bool) (h : F) → CalledAt g f x r h → h ≡ f)
     (next : (t u : S) (x : A) → J t → steps t (Some x) u → CalledAt g f x false f → J u) where
-  abbrev held : S → F → Type 0
-  held t h = J t × (h ≡ f)
-
-  held_next : (t u : S) (x : A) (h i : F) → held t h → steps t (Some x) u → CalledAt g h x false i → held u i
-  held_next t u x h i j e c =
-      let k : CalledAt g f x false i = subst (λ h. CalledAt g h x false i) j.1 c in
-      let o = same x false i k in
-      (next t u x j.0 e (subst (λ h. CalledAt g f x false h) o k), o)
+  abbrev failed : F → A → F → Type 0
+  failed p x q = CalledAt g p x false q
 
   pub first_can : ((t u : S) (x : A) → J t → steps t (Some x) u → TakesAt g f x) → CallableWhileAt steps g false s f
-  first_can ask = asked steps _ held held_next (start, refl) (λ t u x h j e. subst (λ h. TakesAt g h x) (sym j.1) (ask t u x j.0 e))
+  first_can ask = kept_can steps failed f J (λ x h. same x false h) next start ask
 
   pub first : {u : S} (r : Option A) → FindsItem steps g s f r u → MatchOption r ((t : S) × J t × steps t None u) (λ x. (t : S) × J t × steps t (Some x) u × CalledAt g f x true f)
-  first None ran = let t = ran.2 in (t.0, (along steps _ held held_next ran.0 s t.0 f ran.1 (start, refl) t.1 ran.3).0, t.2)
+  first None ran = let t = ran.2 in (t.0, (kept_along steps failed f J (λ x h. same x false h) next ran.0 s t.0 ran.1 start t.1 ran.3).0, t.2)
   first (Some x) ran =
       let t = ran.2 in
       let e = ran.4 in
-      let j = along steps _ held held_next ran.0 s t.0 f ran.1 (start, refl) t.1 ran.3 in
+      let j = kept_along steps failed f J (λ x h. same x false h) next ran.0 s t.0 ran.1 start t.1 ran.3 in
       let k : CalledAt g f x true e.0 = subst (λ h. CalledAt g h x true e.0) j.1 e.1 in
       (t.0, j.0, t.2, subst (λ h. CalledAt g f x true h) (same x true e.0 k) k)
