@@ -1,0 +1,4 @@
+#![tactic(auto)]
+
+pub mod fault;
+pub mod weigh;
