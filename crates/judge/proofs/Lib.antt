@@ -1,2 +1,3 @@
 pub mod Balance
 pub mod Worths
+pub mod Accepted

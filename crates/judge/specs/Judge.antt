@@ -1,14 +1,13 @@
--- What a lot says of a page: the first fault in order, or the welfare of the page's clearing, and how far that is below
--- the best surplus at its prices.
-use Rattle.std.specs.Prelude.{◌≡◌, ℕ, ◌/◌, ◌%◌, ◌≤◌, cond, not, List, Some, None, Option, nat_le}
+-- What a lot refuses a page for: the first fault in order.
+use Rattle.std.specs.Prelude.{ℕ, ◌/◌, ◌%◌, cond, not, List, Some, None, Option, nat_le}
 use Rattle.std.specs.Option.{option_map}
 use Rattle.units.specs.Limit.{is_zero}
 use Rattle.lot.specs.declared.fault.MarketFault.{MarketFault}
 use Rattle.lot.specs.declared.fault.MarketFault.TheVariants.{Refused, Unbalanced, Broken}
-use Rattle.lot.specs.Meaning.{Meaning, Cells, Prices, Feasible, cell_rows, lot_net}
+use Rattle.lot.specs.Meaning.{Meaning, Cells, Prices, cell_rows, lot_net}
 use Rattle.lot.specs.Duties.{most_lot_rows}
-use Rattle.lot.specs.Page.{table_of, Priced}
-use Rattle.page.specs.Shape.{least, first_of, cell_part, price_part, page_fault, Shaped}
+use Rattle.lot.specs.Page.{table_of}
+use Rattle.page.specs.Shape.{least, first_of, cell_part, price_part, page_fault}
 use Rattle.judge.specs.declared.fault.JudgeFault.{JudgeFault}
 use Rattle.judge.specs.declared.fault.JudgeFault.TheVariants.{Rows, Page, Market}
 
@@ -27,17 +26,10 @@ cells_in m page = table_of (cell_part (cell_rows m) page)
 abbrev pub prices_in : Meaning → List ℕ → Prices
 prices_in m page = table_of (price_part (cell_rows m) page)
 
+-- the lot has too many rows
 abbrev pub rows_fault : Meaning → Option JudgeFault
 rows_fault m = cond (nat_le m.rows most_lot_rows) None (Some Rows)
 
 -- what a page is refused for first
 abbrev pub first_broken : Meaning → List ℕ → Option JudgeFault
 first_broken m page = first_of (rows_fault m) (first_of (option_map Page (page_fault (cell_rows m) page)) (option_map Market (market_fault m (cells_in m page) (prices_in m page))))
-
--- an accepted page in plain words, with no order
-pub record Accepted (m : Meaning) (page : List ℕ) : Type 0 where
-  pub few : m.rows ≤ most_lot_rows
-  pub shaped : Shaped (cell_rows m) page
-  pub priced : Priced (price_part (cell_rows m) page)
-  pub feasible : Feasible m (cells_in m page)
-  pub kept : m.broken (cells_in m page) (prices_in m page) ≡ None

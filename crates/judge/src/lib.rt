@@ -1,4 +1,5 @@
 #![tactic(auto)]
 
 pub mod fault;
+pub mod judge;
 pub mod weigh;

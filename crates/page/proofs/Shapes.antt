@@ -36,7 +36,7 @@ pub prices_left : (k : ℕ) (t : List ℕ) → shape_fault k t ≡ None → page
 prices_left k t e = ap (λ x. first_of (option_map Shape x) (option_map Price (price_fault (price_part k t)))) e
 
 -- ---- the shape
-first_none : {A : Type 0} (x y : Option A) → first_of x y ≡ None → (x ≡ None) × (y ≡ None)
+pub first_none : {A : Type 0} (x y : Option A) → first_of x y ≡ None → (x ≡ None) × (y ≡ None)
 first_none None y e = (refl, e)
 first_none (Some a) y e = no_some a (sym e)
 
@@ -107,10 +107,10 @@ price_none q p = least_from 128 (λ j. not (is_price (table_of q (j / 4) (j % 4)
 pub nothing_wrong : (k : ℕ) (t : List ℕ) → Shaped k t → Priced (price_part k t) → page_fault k t ≡ None
 nothing_wrong k t s p = prices_left k t (shape_none k t s) ∙ ap (option_map Price) (price_none (price_part k t) p)
 
-something : {A : Type 0} {P : Type 0} (x : Option A) (a : A) → x ≡ Some a → x ≡ None → P
+pub something : {A : Type 0} {P : Type 0} (x : Option A) (a : A) → x ≡ Some a → x ≡ None → P
 something x a e f = no_some a (sym f ∙ e)
 
-accepted : (k : ℕ) (t : List ℕ) → page_fault k t ≡ None → Shaped k t × Priced (price_part k t)
+pub accepted : (k : ℕ) (t : List ℕ) → page_fault k t ≡ None → Shaped k t × Priced (price_part k t)
 accepted k t e =
     let both = first_none (option_map Shape (shape_fault k t)) (option_map Price (price_fault (price_part k t))) e in
     let right = mapped_none Shape (shape_fault k t) both.0 in
