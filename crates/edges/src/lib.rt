@@ -7,6 +7,8 @@ mod calls;
 #[cfg(test)]
 mod cuts;
 #[cfg(test)]
+mod judged;
+#[cfg(test)]
 mod lots;
 #[cfg(test)]
 mod numbers;

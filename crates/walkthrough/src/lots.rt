@@ -4,16 +4,13 @@ use crate::examples::{
 use crate::show;
 use asked::ask;
 use asked::unasked::Unasked;
+use judge::judge::judge;
 use lot::lot::Lot;
 use lot::views::{Cells, Prices};
+use page::shape::{CELLS, PAGE, PRICES};
 use sealed::sealed_book::SealedBook;
 use std::alloc::Global;
 use std::io;
-
-// The command bytes of a page's cells and prices.
-const CELLS: u8 = 0x51;
-
-const PRICES: u8 = 0x43;
 
 // Four numbers as a row of a page: a command byte, and each number in four bytes.
 fn push_row(page: &mut Vec<u8>, command: u8, numbers: &[i32; 4]) -> anyhow::Result<()> {
@@ -120,7 +117,7 @@ fn answers<L: Lot>(
     named(rt, "price rule", "kept", ask::broken(lot, cells, prices))
 }
 
-// A book's answers for cells and prices that are given by their numbers.
+// A book's answers for cells and prices that are given by their numbers, and what is judged of the page that proposes them.
 fn shown(
     rt: &impl Print,
     heap: Global,
@@ -132,13 +129,25 @@ fn shown(
     println!(rt; "  {what}")?;
     let cells = cells_of(heap, rows)?;
     let prices = prices_of(heap, areas)?;
+    let mut page = Vec::new(heap);
+    page.push(PAGE)?;
+    page.extend_from_slice(cells.as_slice())?;
+    page.extend_from_slice(prices.as_slice())?;
     let cells = Cells {
         bytes: cells.as_slice(),
     };
     let prices = Prices {
         bytes: prices.as_slice(),
     };
-    answers(rt, &SealedBook::open(book), cells, prices)?;
+    let book = SealedBook::open(book);
+    answers(rt, &book, cells, prices)?;
+    match judge(&book, page.as_slice()) {
+        Ok(figures) => println!(rt;
+            "    judged: welfare {}, foregone surplus {}",
+            figures.welfare, figures.foregone
+        )?,
+        Err(fault) => println!(rt; "    judged: {fault}")?,
+    }
     Ok(())
 }
 
