@@ -5,17 +5,15 @@ ghost use Rattle.judge.specs.declared.fault.JudgeFault.TheVariants.{Page, Market
 
 use byte_layer::fault::{Layer, Told};
 use lot::fault::MarketFault;
+use lot::lot::MOST_LOT_ROWS;
 use page::fault::PageFault;
 use std::error::Error;
 use std::fmt;
 
-// A count of rows goes so far, and no further: the lot has more rows than a page is judged for.
-const COUNTED: usize = 4_097;
-
 // What a page is refused for.
 #[derive(Clone, Copy, PartialEq, Eq, Debug)]
 pub enum JudgeFault {
-    // The lot has too many rows.
+    // The lot has more rows than are judged: they are counted one further than that.
     Rows,
     // What the page itself has wrong.
     Page(PageFault),
@@ -32,7 +30,7 @@ impl JudgeFault {
             JudgeFault::Rows => Told {
                 number: 52,
                 layer: Layer::Gate,
-                place: COUNTED,
+                place: MOST_LOT_ROWS + 1,
             },
             JudgeFault::Page(fault) => fault.tell(),
             JudgeFault::Market(fault) => fault.tell(),
