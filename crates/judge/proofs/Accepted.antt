@@ -1,6 +1,5 @@
 -- A page is accepted just where nothing refuses it, and what follows then.
 use Rattle.std.proofs.Common.{◌≡◌, ℕ, ◌+◌, ◌*◌, ◌/◌, ◌%◌, ◌<◌, ◌≤◌, min, Bool, true, false, not, cond, leb-true, le-leb, List, length-take, length-drop, ℤ, pos, ◌+ℤ◌, ◌-ℤ◌, ◌≤ℤ◌, nat_abs, w64, of_z, to_z, Ok, Err, Result, IsOk, IfOk, ◌↔◌, Some, None, Option, sym, refl, ap, ap₂, ◌∙◌, subst, subst₂, arith}
-use Rattle.std.proofs.lemmas.Bool.{lt-leb}
 use Rattle.std.proofs.lemmas.Int.{ints, to_z-of_z}
 use Rattle.std.specs.Option.{option_map}
 use Rattle.std.specs.Prelude.{FitsSigned, nat_le}
@@ -104,25 +103,22 @@ accepted_when m page h =
     }
 
 -- what a page is refused for first, where the lot has few rows
-pub page_left : (m : Meaning) (page : List ℕ) (x : Option PageFault) → m.rows ≤ most_lot_rows → page_fault (cell_rows m) page ≡ x → first_broken m page ≡ first_of (option_map Page x) (option_map Market (market_fault m (cells_in m page) (prices_in m page)))
+page_left : (m : Meaning) (page : List ℕ) (x : Option PageFault) → m.rows ≤ most_lot_rows → page_fault (cell_rows m) page ≡ x → first_broken m page ≡ first_of (option_map Page x) (option_map Market (market_fault m (cells_in m page) (prices_in m page)))
 page_left m page x few e =
     let rest = option_map Market (market_fault m (cells_in m page) (prices_in m page)) in
     ap (λ y. first_of y (first_of (option_map Page (page_fault (cell_rows m) page)) rest)) (rows_none m few) ∙ ap (λ y. first_of (option_map Page y) rest) e
 
-pub market_left : (m : Meaning) (page : List ℕ) (x : Option MarketFault) → m.rows ≤ most_lot_rows → page_fault (cell_rows m) page ≡ None → market_fault m (cells_in m page) (prices_in m page) ≡ x → first_broken m page ≡ option_map Market x
+market_left : (m : Meaning) (page : List ℕ) (x : Option MarketFault) → m.rows ≤ most_lot_rows → page_fault (cell_rows m) page ≡ None → market_fault m (cells_in m page) (prices_in m page) ≡ x → first_broken m page ≡ option_map Market x
 market_left m page x few none e = page_left m page None few none ∙ ap (option_map Market) e
 
 none_when : (m : Meaning) (page : List ℕ) → Accepted m page → first_broken m page ≡ None
 none_when m page a = market_left m page None a.few (nothing_wrong (cell_rows m) page a.shaped a.priced) (market_none m (cells_in m page) (prices_in m page) a.feasible a.kept)
 
-pub too_many : (m : Meaning) (page : List ℕ) → most_lot_rows < m.rows → first_broken m page ≡ Some Rows
-too_many m page l = ap (λ b. first_of (cond b None (Some Rows)) (first_of (option_map Page (page_fault (cell_rows m) page)) (option_map Market (market_fault m (cells_in m page) (prices_in m page))))) (lt-leb m.rows most_lot_rows l)
-
 covers : (m : Meaning) (page : List ℕ) → Duties m → Accepted m page → Covers m (figures m page)
 covers m page d a = record { every = λ c f. subst (λ y. welfare m c ≤ℤ y) (sym (again (welfare m (cells_in m page)) (m.best (prices_in m page)))) (ceiling m d a.few c f (prices_in m page) (priced_quoted (price_part (cell_rows m) page) a.priced)) }
 
 -- ---- what a judge answers
-pub answered : (m : Meaning) (page : List ℕ) (r : Result Figures JudgeFault) (x : Option JudgeFault) → first_broken m page ≡ x → r ≡ verdict x (figures m page) → r ≡ verdict (first_broken m page) (figures m page)
+answered : (m : Meaning) (page : List ℕ) (r : Result Figures JudgeFault) (x : Option JudgeFault) → first_broken m page ≡ x → r ≡ verdict x (figures m page) → r ≡ verdict (first_broken m page) (figures m page)
 answered m page r x e h = h ∙ sym (ap (λ y. verdict y (figures m page)) e)
 
 pub is_accepted : (m : Meaning) (page : List ℕ) (r : Result Figures JudgeFault) → r ≡ verdict (first_broken m page) (figures m page) → IsOk r ↔ Accepted m page

@@ -1,6 +1,5 @@
 -- The places of a lot's net, in order, as far as nothing is left over or missing.
-use Rattle.std.proofs.Common.{◌≡◌, ℕ, ◌+◌, ◌*◌, ◌/◌, ◌%◌, ◌<◌, false, not, ℤ, pos, negsuc, zero, suc, w64, of_z, ne_eqb, Some, None, refl, ap, ap₂, ◌∙◌, ⊎_elim, arith}
-use Rattle.std.proofs.lemmas.Bool.Decides.{leb_tells}
+use Rattle.std.proofs.Common.{◌≡◌, ℕ, ◌+◌, ◌*◌, ◌/◌, ◌%◌, ◌<◌, false, not, ℤ, pos, negsuc, zero, suc, w64, of_z, ne_eqb, Some, None, refl, ap, ap₂, ◌∙◌, arith}
 use Rattle.units.specs.Limit.{is_zero}
 use Rattle.lot.specs.Meaning.{Meaning, Cells, lot_net}
 use Rattle.lot.specs.Laws.Tests.{test_of_zero}
@@ -11,20 +10,8 @@ use Rattle.judge.specs.Judge.{balance_fault}
 pub record BalancedTo (m : Meaning) (c : Cells) (n : ℕ) : Type 0 where
   pub each : (j : ℕ) → j < n → lot_net m c (j / 4) (j % 4) ≡ pos 0
 
-pub balanced_start : (m : Meaning) (c : Cells) → BalancedTo m c 0
-balanced_start m c = record { each = λ j l. absurd (omega arith) }
-
 net_at : (m : Meaning) (c : Cells) (a t j : ℕ) → t < 4 → j ≡ 4 * a + t → lot_net m c (j / 4) (j % 4) ≡ lot_net m c a t
 net_at m c a t j l e = ap₂ (lot_net m c) (omega arith) (omega arith)
-
-pub balanced_next : {m : Meaning} {c : Cells} {n : ℕ} (a t : ℕ) → t < 4 → n ≡ 4 * a + t → BalancedTo m c n → lot_net m c a t ≡ pos 0 → BalancedTo m c (n + 1)
-balanced_next {m} {c} {n} a t l e b z = record {
-  each = λ j k.
-      ⊎_elim
-      (λ u. let x = u.1 in b.each j (omega arith))
-      (λ u. let x = u.1 in net_at m c a t j l (omega arith) ∙ z)
-      (leb_tells (j + 1) n);
-}
 
 passes_not : (m : Meaning) (c : Cells) (j : ℕ) → lot_net m c (j / 4) (j % 4) ≡ pos 0 → not (is_zero (lot_net m c (j / 4) (j % 4))) ≡ false
 passes_not m c j z = ap not (test_of_zero (lot_net m c (j / 4) (j % 4)) z)
