@@ -1,7 +1,7 @@
 -- A page is accepted just where nothing refuses it, and what follows then.
 use Rattle.std.proofs.Common.{◌≡◌, ℕ, ◌+◌, ◌*◌, ◌/◌, ◌%◌, ◌<◌, ◌≤◌, min, Bool, true, false, not, cond, leb-true, le-leb, List, length-take, length-drop, ℤ, pos, ◌+ℤ◌, ◌-ℤ◌, ◌≤ℤ◌, nat_abs, w64, of_z, to_z, Ok, Err, Result, IsOk, IfOk, ◌↔◌, Some, None, Option, sym, refl, ap, ap₂, ◌∙◌, subst, subst₂, arith}
 use Rattle.std.proofs.lemmas.Int.{ints, to_z-of_z}
-use Rattle.std.specs.Option.{option_map}
+use Rattle.std.specs.Option.{option_map, option_or}
 use Rattle.std.specs.Prelude.{FitsSigned, nat_le}
 use Rattle.units.specs.Limit.{is_zero}
 use Rattle.units.proofs.Judged.{no_some}
@@ -15,7 +15,7 @@ use Rattle.lot.specs.Laws.Sums.{sum_within, count_le}
 use Rattle.lot.specs.Laws.Tests.{zero_of_test}
 use Rattle.lot.proofs.Splits.{sized_fits, priced_quoted}
 use Rattle.page.specs.declared.fault.PageFault.{PageFault}
-use Rattle.page.specs.Shape.{first_of, cell_part, price_part, page_fault, Shaped}
+use Rattle.page.specs.Shape.{cell_part, price_part, page_fault, Shaped}
 use Rattle.page.proofs.Least.{least_none}
 use Rattle.page.proofs.Shapes.{mapped_none, first_none, something, accepted, nothing_wrong}
 use Rattle.judge.specs.declared.fault.JudgeFault.{JudgeFault}
@@ -43,7 +43,7 @@ balance_none m c f = sym (balanced_all (record { each = λ j l. f.balanced (j / 
 
 market_parts : (m : Meaning) (c : Cells) (p : Prices) → market_fault m c p ≡ None → (m.refused c ≡ None) × (balance_fault m c ≡ None) × (m.broken c p ≡ None)
 market_parts m c p h =
-    let one = first_none (option_map Refused (m.refused c)) (first_of (option_map Unbalanced (balance_fault m c)) (option_map Broken (m.broken c p))) h in
+    let one = first_none (option_map Refused (m.refused c)) (option_or (option_map Unbalanced (balance_fault m c)) (option_map Broken (m.broken c p))) h in
     let two = first_none (option_map Unbalanced (balance_fault m c)) (option_map Broken (m.broken c p)) one.1 in
     (mapped_none Refused (m.refused c) one.0, mapped_none Unbalanced (balance_fault m c) two.0, mapped_none Broken (m.broken c p) two.1)
 
@@ -89,7 +89,7 @@ few_when false e = no_some Rows (sym e)
 accepted_when : (m : Meaning) (page : List ℕ) → first_broken m page ≡ None → Accepted m page
 accepted_when m page h =
     let k = cell_rows m in
-    let one = first_none (rows_fault m) (first_of (option_map Page (page_fault k page)) (option_map Market (market_fault m (cells_in m page) (prices_in m page)))) h in
+    let one = first_none (rows_fault m) (option_or (option_map Page (page_fault k page)) (option_map Market (market_fault m (cells_in m page) (prices_in m page)))) h in
     let two = first_none (option_map Page (page_fault k page)) (option_map Market (market_fault m (cells_in m page) (prices_in m page))) one.1 in
     let few = leb-true m.rows most_lot_rows (few_when (nat_le m.rows most_lot_rows) one.0) in
     let right = accepted k page (mapped_none Page (page_fault k page) two.0) in
@@ -103,10 +103,10 @@ accepted_when m page h =
     }
 
 -- what a page is refused for first, where the lot has few rows
-page_left : (m : Meaning) (page : List ℕ) (x : Option PageFault) → m.rows ≤ most_lot_rows → page_fault (cell_rows m) page ≡ x → first_broken m page ≡ first_of (option_map Page x) (option_map Market (market_fault m (cells_in m page) (prices_in m page)))
+page_left : (m : Meaning) (page : List ℕ) (x : Option PageFault) → m.rows ≤ most_lot_rows → page_fault (cell_rows m) page ≡ x → first_broken m page ≡ option_or (option_map Page x) (option_map Market (market_fault m (cells_in m page) (prices_in m page)))
 page_left m page x few e =
     let rest = option_map Market (market_fault m (cells_in m page) (prices_in m page)) in
-    ap (λ y. first_of y (first_of (option_map Page (page_fault (cell_rows m) page)) rest)) (rows_none m few) ∙ ap (λ y. first_of (option_map Page y) rest) e
+    ap (λ y. option_or y (option_or (option_map Page (page_fault (cell_rows m) page)) rest)) (rows_none m few) ∙ ap (λ y. option_or (option_map Page y) rest) e
 
 market_left : (m : Meaning) (page : List ℕ) (x : Option MarketFault) → m.rows ≤ most_lot_rows → page_fault (cell_rows m) page ≡ None → market_fault m (cells_in m page) (prices_in m page) ≡ x → first_broken m page ≡ option_map Market x
 market_left m page x few none e = page_left m page None few none ∙ ap (option_map Market) e

@@ -2,7 +2,7 @@
 use Rattle.std.proofs.Common.{◌≡◌, ℕ, zero, suc, ◌+◌, ◌-◌, ◌*◌, ◌/◌, ◌%◌, ◌<◌, ◌≤◌, Bool, true, false, not, cond, ◌&&◌, eqb, ltb, eqb-true, eq-eqb, lt-ltb, ⊎_elim, ne_eqb, le-leb, min, slice_index, List, length, length-drop, Ok, Err, Result, IsOk, MatchResult, ◌↔◌, Some, None, Option, sym, refl, ap, ap₂, ◌∙◌, arith}
 use Rattle.std.proofs.lemmas.Bool.{lt-leb}
 use Rattle.std.proofs.lemmas.Bool.Decides.{leb_tells}
-use Rattle.std.specs.Option.{option_map}
+use Rattle.std.specs.Option.{option_map, option_or}
 use Rattle.units.specs.Limit.{is_price}
 use Rattle.units.proofs.Judged.{no_some}
 use Rattle.lot.specs.Meaning.{Capped}
@@ -11,7 +11,7 @@ use Rattle.lot.specs.Laws.Limits.{price_within}
 use Rattle.lot.proofs.Pricing.{price_passes}
 use Rattle.page.specs.declared.fault.PageFault.{PageFault}
 use Rattle.page.specs.declared.fault.PageFault.TheVariants.{Shape, Price}
-use Rattle.page.specs.Shape.{page_length, place_of, sign_of, wrong_at, least, length_fault, shape_fault, price_fault, price_part, page_fault, first_of, Shaped}
+use Rattle.page.specs.Shape.{page_length, place_of, sign_of, wrong_at, least, length_fault, shape_fault, price_fault, price_part, page_fault, Shaped}
 use Rattle.page.proofs.Least.{least_is, least_none}
 
 pub mapped_none : {A B : Type 0} (f : A → B) (x : Option A) → option_map f x ≡ None → x ≡ None
@@ -33,10 +33,10 @@ priced_when q long e = record { long = long; capped = capped_when q e }
 
 -- what a page has wrong, where its shape is right
 pub prices_left : (k : ℕ) (t : List ℕ) → shape_fault k t ≡ None → page_fault k t ≡ option_map Price (price_fault (price_part k t))
-prices_left k t e = ap (λ x. first_of (option_map Shape x) (option_map Price (price_fault (price_part k t)))) e
+prices_left k t e = ap (λ x. option_or (option_map Shape x) (option_map Price (price_fault (price_part k t)))) e
 
 -- ---- the shape
-pub first_none : {A : Type 0} (x y : Option A) → first_of x y ≡ None → (x ≡ None) × (y ≡ None)
+pub first_none : {A : Type 0} (x y : Option A) → option_or x y ≡ None → (x ≡ None) × (y ≡ None)
 first_none None y e = (refl, e)
 first_none (Some a) y e = no_some a (sym e)
 

@@ -2,7 +2,7 @@
 -- for each of the 32 areas' prices, a row being a command byte and four signed numbers of 4 bytes.
 use Rattle.std.specs.Prelude.{◌≡◌, ℕ, ◌+◌, ◌-◌, ◌*◌, ◌/◌, ◌%◌, ◌<◌, Bool, cond, not, ◌&&◌, List, length, take, drop, Some, None, Option, ◌==◌, nat_le, nat_lt, min, slice_index, find}
 use Rattle.std.specs.List.{range_with_len}
-use Rattle.std.specs.Option.{option_map}
+use Rattle.std.specs.Option.{option_map, option_or}
 use Rattle.units.specs.Limit.{is_price}
 use Rattle.lot.specs.Page.{table_of}
 use Rattle.page.specs.declared.fault.PageFault.{PageFault}
@@ -33,16 +33,12 @@ wrong_at k t i = nat_lt (place_of i) (length t) && not (slice_index t (place_of 
 abbrev pub least : ℕ → (ℕ → Bool) → Option ℕ
 least n test = find test (range_with_len 0 n)
 
-abbrev pub first_of : {A : Type 0} → Option A → Option A → Option A
-first_of None y = y
-first_of (Some x) y = Some x
-
 -- where the shape is another: at the first wrong command, else at the shorter of the text's length and a page's
 abbrev pub length_fault : ℕ → List ℕ → Option ℕ
 length_fault k t = cond (length t == page_length k) None (Some (min (length t) (page_length k)))
 
 abbrev pub shape_fault : ℕ → List ℕ → Option ℕ
-shape_fault k t = first_of (option_map place_of (least (33 + k) (wrong_at k t))) (length_fault k t)
+shape_fault k t = option_or (option_map place_of (least (33 + k) (wrong_at k t))) (length_fault k t)
 
 -- the smallest place, 4 × area + quarter, whose price is beyond the cap
 abbrev pub price_fault : List ℕ → Option ℕ
@@ -50,7 +46,7 @@ price_fault q = least 128 (λ j. not (is_price (table_of q (j / 4) (j % 4))))
 
 -- what a page has wrong, its shape first
 abbrev pub page_fault : ℕ → List ℕ → Option PageFault
-page_fault k t = first_of (option_map Shape (shape_fault k t)) (option_map Price (price_fault (price_part k t)))
+page_fault k t = option_or (option_map Shape (shape_fault k t)) (option_map Price (price_fault (price_part k t)))
 
 -- the shape in plain words, with no order
 pub record Shaped (k : ℕ) (t : List ℕ) : Type 0 where

@@ -1,10 +1,10 @@
 use Rattle.std.proofs.Common.{◌≡◌, ◌*◌, ℕ, take, drop, drop-drop, Some, None, Err, MatchResult, sym, ap, ◌∙◌, subst, arith}
 use Rattle.std.proofs.lemmas.List.{take_rest}
 use Rattle.std.proofs.lemmas.Result.{err_from_is_err_and}
-use Rattle.std.specs.Option.{option_map}
+use Rattle.std.specs.Option.{option_map, option_or}
 use Rattle.std.specs.Result.{result_err}
 use Rattle.page.specs.declared.fault.PageFault.TheVariants.{Shape, Price}
-use Rattle.page.specs.Shape.{price_part, price_fault, page_fault, shape_fault, first_of}
+use Rattle.page.specs.Shape.{price_part, price_fault, page_fault, shape_fault}
 use Rattle.page.proofs.Shapes.{mapped_none, long_when, priced_when, prices_left, is_lawful, not_lawful, lawful_of}
 use Rattle.page.proofs.proposal.Proposal.read.Goals as goal
 
@@ -13,7 +13,7 @@ returns-in_err-shape-clause-lawful c =
     let k = c.args.rows in
     let t = c.args.page.now in
     let p = err_from_is_err_and c.from_residual.result c.from_residual.ensures.1 in
-    let wrong : page_fault k t ≡ Some c.in_err-shape.field-0.0 = ap (λ x. first_of x (option_map Price (price_fault (price_part k t)))) (sym c.shape.ensures ∙ ap result_err c.in_err-shape.was) in
+    let wrong : page_fault k t ≡ Some c.in_err-shape.field-0.0 = ap (λ x. option_or x (option_map Price (price_fault (price_part k t)))) (sym c.shape.ensures ∙ ap result_err c.in_err-shape.was) in
     lawful_of k t c.from_residual.result (subst (λ r. MatchResult r (λ _. page_fault k t ≡ None) (λ e. page_fault k t ≡ Some e)) (sym (p.1 ∙ ap Err p.2)) wrong)
 
 pub returns-in-Some : goal.returns-in-Some
