@@ -36,6 +36,7 @@ module _ {C L : Type 0} (k : Chain C L) (l : Lot L) where
     front : p.cells.bytes.now ≡ take (17 * cell_rows (l.meaning p.lot)) s.rest.bytes.now;
     rest : t.rest.bytes.now ≡ drop (17 * cell_rows (l.meaning p.lot)) s.rest.bytes.now;
     before : p.before ≡ s.passed;
+    rows : p.rows ≡ (l.meaning p.lot).rows;
     passed : t.passed ≡ s.passed + (l.meaning p.lot).rows;
   })
 
@@ -272,7 +273,7 @@ is_below x y e = grind (arith, nat_tests)
 -- by `find` over the parts
 module _ {C L F : Type 0} (k : Chain C L) (l : Lot L) (row : ℕ) (g : Mut F (Bor (Part L) × Unit {0}) Bool) (f : F) (s : Parts C L k l)
     {c : C} {b : List ℕ} (ec : s.chain ≡ c) (eb : s.rest.bytes.now ≡ b) (ez : s.passed ≡ 0) (whole : Ready (k.meaning c) b) (inside : row < (k.meaning c).rows)
-    (turn : (x : Part L) (r : Bool) (h : F) → CalledAt g f x r h → (h ≡ f) × (r ≡ nat_lt (row - x.before) (min (l.meaning x.lot).rows 4097))) where
+    (turn : (x : Part L) (r : Bool) (h : F) → CalledAt g f x r h → (h ≡ f) × (r ≡ nat_lt (row - x.before) x.rows)) where
   record Sought (u : Parts C L k l) : Type 0 where
     pub before : u.passed ≤ row
     pub seeks : Seeking worth_and_net (k.meaning u.chain) (k.meaning c) u.rest.bytes.now b (row - u.passed) row

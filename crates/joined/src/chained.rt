@@ -37,10 +37,7 @@ impl<C: Chain> Chained<C> {
         ensures worth { (C.Link.Lot.meaning result.lot).worth (table_of result.cells.bytes.now) (row - result.before) ≡ (C.Chain.meaning self.now.0).worth (table_of cells.entry.bytes.now) row }
         ensures net { (C.Link.Lot.meaning result.lot).net (table_of result.cells.bytes.now) (row - result.before) ≡ (C.Chain.meaning self.now.0).net (table_of cells.entry.bytes.now) row }
     {
-        let Some(part) = self
-            .parts(cells)
-            .find(|part| row - part.before < part.lot.row_count())
-        else {
+        let Some(part) = self.parts(cells).find(|part| row - part.before < part.rows) else {
             unreachable()
         };
         part

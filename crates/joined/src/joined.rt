@@ -14,7 +14,7 @@ pub const COUNTED: usize = MOST_LOT_ROWS + 1;
 #[derive(Clone, Copy, Drop)]
 pub struct Joined<A, B>(pub A, pub B);
 
-// A view each, and no pair of both: `worth` and `amount` take one alone.
+// A view each, beside the pair of both: `worth` and `amount` take one alone.
 // The cells of the first of two lots.
 pub fn front_part<'a, L: Lot>(first: &L, cells: Cells<'a>) -> Cells<'a>
     requires few { (L.Lot.meaning first.now).rows ≤ most_lot_rows }
@@ -31,6 +31,17 @@ pub fn rest_part<'a, L: Lot>(first: &L, cells: Cells<'a>) -> Cells<'a>
     ensures { result.bytes.now ≡ drop (17 * cell_rows (L.Lot.meaning first.now)) cells.entry.bytes.now }
 {
     cells.rest(first.cell_row_count())
+}
+
+// Both of them, with one count of the first's cell rows, which of many lots is a walk.
+pub(crate) fn both_parts<'a, L: Lot>(first: &L, cells: Cells<'a>) -> (Cells<'a>, Cells<'a>)
+    requires few { (L.Lot.meaning first.now).rows ≤ most_lot_rows }
+    requires long { 17 * cell_rows (L.Lot.meaning first.now) ≤ length cells.bytes.now }
+    ensures front { result.0.bytes.now ≡ take (17 * cell_rows (L.Lot.meaning first.now)) cells.entry.bytes.now }
+    ensures rest { result.1.bytes.now ≡ drop (17 * cell_rows (L.Lot.meaning first.now)) cells.entry.bytes.now }
+{
+    let cell_rows = first.cell_row_count();
+    (cells.front(cell_rows), cells.rest(cell_rows))
 }
 
 impl<A: Lot, B: Lot> Lot for Joined<A, B> {
@@ -55,10 +66,11 @@ impl<A: Lot, B: Lot> Lot for Joined<A, B> {
     }
 
     fn refused_row(&self, cells: Cells<'_>) -> Option<usize> {
-        let front = front_part(&self.0, cells);
-        let rest = rest_part(&self.0, cells);
-        let rows = self.0.row_count();
-        let second = || Some(rows + self.1.refused_row(rest)?);
+        let (front, rest) = both_parts(&self.0, cells);
+        let second = || {
+            let refused = self.1.refused_row(rest)?;
+            Some(self.0.row_count() + refused)
+        };
         self.0.refused_row(front).or_else(second)
     }
 
@@ -90,10 +102,11 @@ impl<A: Lot, B: Lot> Lot for Joined<A, B> {
     }
 
     fn broken_row(&self, cells: Cells<'_>, prices: CappedPrices<'_>) -> Option<usize> {
-        let front = front_part(&self.0, cells);
-        let rest = rest_part(&self.0, cells);
-        let rows = self.0.row_count();
-        let second = || Some(rows + self.1.broken_row(rest, prices)?);
+        let (front, rest) = both_parts(&self.0, cells);
+        let second = || {
+            let broken = self.1.broken_row(rest, prices)?;
+            Some(self.0.row_count() + broken)
+        };
         self.0.broken_row(front, prices).or_else(second)
     }
 }

@@ -6,7 +6,7 @@ ghost use Rattle.lot.specs.Join.{Parted, nothing};
 ghost use Rattle.lot.specs.Page.{Sized};
 
 use crate::chain::Chain;
-use crate::joined::{front_part, rest_part};
+use crate::joined::both_parts;
 use lot::lot::Lot;
 use lot::views::Cells;
 
@@ -28,12 +28,14 @@ impl<C: Chain> Iterator for Links<C> {
     }
 }
 
-// A lot of a chain, the cells that are its own, and how many rows stand before it.
+// A lot of a chain, the cells that are its own, how many rows stand before it, and how many it has. A lot may be many,
+// and counting it a walk: it is counted once for each.
 #[derive(Drop)]
 pub(crate) struct Part<'a, L> {
     pub(crate) lot: L,
     pub(crate) cells: Cells<'a>,
     pub(crate) before: usize,
+    pub(crate) rows: usize,
 }
 
 // The parts of a chain, from the first to the last.
@@ -54,6 +56,7 @@ impl<'a, C: Chain> Iterator for Parts<'a, C> {
       front : p.cells.bytes.now ≡ take (17 * cell_rows (C.Link.Lot.meaning p.lot)) s.rest.bytes.now;
       rest : t.rest.bytes.now ≡ drop (17 * cell_rows (C.Link.Lot.meaning p.lot)) s.rest.bytes.now;
       before : p.before ≡ s.passed;
+      rows : p.rows ≡ (C.Link.Lot.meaning p.lot).rows;
       passed : t.passed ≡ s.passed + (C.Link.Lot.meaning p.lot).rows;
     }) };
 
@@ -61,13 +64,19 @@ impl<'a, C: Chain> Iterator for Parts<'a, C> {
 
     fn next(&mut self) -> Option<Part<'a, C::Link>> {
         let (lot, chain) = self.chain.split()?;
-        let cells = front_part(&lot, self.rest);
+        let (cells, rest) = both_parts(&lot, self.rest);
         let before = self.passed;
+        let rows = lot.row_count();
         *self = Parts {
             chain,
-            rest: rest_part(&lot, self.rest),
-            passed: before + lot.row_count(),
+            rest,
+            passed: before + rows,
         };
-        Some(Part { lot, cells, before })
+        Some(Part {
+            lot,
+            cells,
+            before,
+            rows,
+        })
     }
 }
