@@ -46,7 +46,9 @@ impl TryFrom<BidFields> for Bid {
 
     fn try_from(fields: BidFields) -> Result<Bid, FieldFault> {
         are_four(&fields.quarters);
-        FieldFault::judge(is_area(fields.area), bid_fine(&fields.quarters))?;
+        // The quarters are looked at only where the area is one.
+        let placed = is_area(fields.area);
+        FieldFault::judge(placed, placed && bid_fine(&fields.quarters))?;
         Ok(Bid { fields })
     }
 }

@@ -44,10 +44,9 @@ impl TryFrom<BorderFields> for Border {
 
     fn try_from(fields: BorderFields) -> Result<Border, FieldFault> {
         are_four(&fields.quarters);
-        FieldFault::judge(
-            border_placed(fields.from, fields.to),
-            border_fine(&fields.quarters),
-        )?;
+        // The quarters are looked at only where the areas may be a border's.
+        let placed = border_placed(fields.from, fields.to);
+        FieldFault::judge(placed, placed && border_fine(&fields.quarters))?;
         Ok(Border { fields })
     }
 }

@@ -45,9 +45,11 @@ impl TryFrom<NeedFields> for Need {
 
     fn try_from(fields: NeedFields) -> Result<Need, FieldFault> {
         are_four(&fields.quarters);
+        // The quarters are looked at only where the area is one.
+        let placed = is_area(fields.area);
         FieldFault::judge(
-            is_area(fields.area),
-            need_fine(fields.elasticity, &fields.quarters),
+            placed,
+            placed && need_fine(fields.elasticity, &fields.quarters),
         )?;
         Ok(Need { fields })
     }
