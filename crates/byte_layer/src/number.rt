@@ -1,4 +1,4 @@
-ghost use Rattle.std.specs.Prelude.{◌≡◌, ℕ, ◌+◌, ◌^◌, ◌<◌, ◌≤◌, length};
+ghost use Rattle.std.specs.Prelude.{◌≡◌, ℕ, ◌+◌, ◌^◌, ◌<◌, ◌≤◌, length, take, drop};
 ghost use Rattle.byte_layer.specs.Number.{number, octets, placed, Octets};
 
 // Numbers in a text, the highest octet first.
@@ -151,16 +151,24 @@ impl Number<8> for i64 {
 
 // That a field lies within the text is asked at each call: it is a fact of text, place and width together, not of one value.
 
+// The `N` octets from a place of a text on, where they lie.
+fn octets_at<const N: usize>(text: &[u8], at: usize) -> &[u8; N]
+    requires { at + N ≤ length text.now }
+    ensures { result.now ≡ take N (drop at text.now) }
+{
+    let Some(bytes) = text[at..at + N].as_array() else {
+        return unreachable();
+    };
+    bytes
+}
+
 // The number at a place of a text. A number that was read, written again where it stood, changes nothing.
 pub fn read<T: Number<N>, const N: usize>(text: &[u8], at: usize) -> T
     requires { at + N ≤ length text.now }
     ensures value { result ≡ T.of_code (number N text.now at) }
     ensures stood { placed text.now at (octets N (T.code result)) ≡ text.now }
 {
-    let Some(bytes) = text[at..at + N].as_array() else {
-        return unreachable();
-    };
-    T::from_octets(bytes)
+    T::from_octets(octets_at(text, at))
 }
 
 // Writes a number at a place of a text, where it is read again.
